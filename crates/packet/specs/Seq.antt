@@ -1,0 +1,28 @@
+-- Sequence numbers and offsets (document 01, "Sent packets" and "Receiving"). Definitions only.
+use Prim.Native.Nat.{ℕ, _+_, _-_, _%_, _^_}
+use mathlib.Core.Bool.{Bool, true, false, cond}
+use lib.Dec.{leb, eqb}
+use Rattle.packet.specs.declared.seq.SeqNum.{SeqNum}
+use Rattle.packet.specs.declared.seq.Offset.{Offset}
+use Rattle.packet.specs.declared.seq.CircularRangeInclusive.{CircularRangeInclusive}
+use Rattle.packet.specs.declared.seq.Step.{Step}
+use Rattle.packet.specs.declared.seq.Step.the-variants.{Item, Done}
+
+-- the number that lies n past s, modulo 65,536
+abbrev pub plusOf : SeqNum → ℕ → SeqNum
+plusOf s n = record { 0 = (s .0 + n) % 2 ^ 16 }
+
+-- offset = number - initial, modulo 65,536
+abbrev pub offsetOf : SeqNum → SeqNum → Offset
+offsetOf s initial = record { 0 = (s .0 + (2 ^ 16 - initial .0)) % 2 ^ 16 }
+
+abbrev pub containsOf : SeqNum → SeqNum → SeqNum → Bool
+containsOf start end item = leb (offsetOf item start .0) (offsetOf end start .0)
+
+abbrev pub nextOf : CircularRangeInclusive → Step
+nextOf r =
+    cond (r .exhausted)
+    Done
+    (cond (eqb (r .start .0) (r .end .0))
+    (Item (r .end) (record { start = r .start; end = r .end; exhausted = true }))
+    (Item (r .start) (record { start = plusOf (r .start) 1; end = r .end; exhausted = false })))
