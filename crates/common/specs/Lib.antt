@@ -1,2 +1,5 @@
--- What is shown of every public function, and laws that several crates cite.
+-- What is shown of every public function, answers by document 01's numbers, and laws that several crates cite.
+pub mod Answer
+pub mod Case
 pub mod Promise
+pub mod Laws

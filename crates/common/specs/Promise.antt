@@ -31,3 +31,22 @@ by-value value total given =
       asks-nothing = total;
       one-outcome = λ κs a r r′ s s′ p p′. given κs a r s p ∙ sym (given κs a r′ s′ p′);
     }
+
+-- Where the promise gives the document's number and values for the result, and no two results have the same, there is one outcome.
+pub by-code :
+    {K W C : Type 0}
+    {A R S : K → Type 0}
+    {pre : (κs : K) → A κs → Type 0}
+    {post : (κs : K) → A κs → R κs → S κs → Type 0}
+    {seen : (κs : K) → R κs → S κs → W}
+    (code : W → C)
+    → ((x y : W) → code x ≡ code y → x ≡ y)
+    → (value : (κs : K) → A κs → C)
+    → ((κs : K) (a : A κs) → pre κs a)
+    → ((κs : K) (a : A κs) (r : R κs) (s : S κs) → post κs a r s → code (seen κs r s) ≡ value κs a)
+    → Promise pre post seen
+by-code code one-to-one value total given =
+    record {
+      asks-nothing = total;
+      one-outcome = λ κs a r r′ s s′ p p′. one-to-one _ _ (given κs a r s p ∙ sym (given κs a r′ s′ p′));
+    }

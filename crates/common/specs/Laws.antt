@@ -1,0 +1,2 @@
+-- Laws on lists and numbers that several crates cite, a file for each topic.
+pub mod Put

@@ -1,0 +1,28 @@
+use borrow.Author.Needs.{needs}
+use Rattle.packet.proofs.encode.size_of.Statement.{statement}
+use Rattle.packet.proofs.encode.size_of.Tie as tie
+use Rattle.packet.proofs.encode.size_of.Reads as reads
+use Rattle.packet.proofs.encode.size_of.Lts as lts
+
+-- src/encode.rt:56:9
+add-result : tie.Need-add-result
+add-result c = search needs
+
+-- src/encode.rt:58:9
+add-result-2 : tie.Need-add-result-2
+add-result-2 c = search needs
+
+-- src/encode.rt:58:9
+add-result-3 : tie.Need-add-result-3
+add-result-3 c = search needs
+
+-- src/encode.rt:51:1
+returns : tie.Need-returns
+returns c = ?
+
+-- src/encode.rt:51:1
+returns-2 : tie.Need-returns-2
+returns-2 c = ?
+
+pub size-of-spec : {M : Type 1} → statement M
+size-of-spec = tie.close (tie.spec add-result add-result-2 add-result-3 returns returns-2)

@@ -1,0 +1,86 @@
+use borrow.Author.Needs.{needs}
+use Rattle.packet.proofs.extension.Cursor.step.Statement.{statement}
+use Rattle.packet.proofs.extension.Cursor.step.Tie as tie
+use Rattle.packet.proofs.extension.Cursor.step.Reads as reads
+use Rattle.packet.proofs.extension.Cursor.step.Lts as lts
+use Rattle.packet.proofs.extension.wide.Reads as wide-reads
+
+-- src/extension.rt:75:13
+returns : tie.Need-returns
+returns c = ?
+
+-- src/extension.rt:78:13
+returns-2 : tie.Need-returns-2
+returns-2 c = ?
+
+-- src/extension.rt:80:12
+sub-if3 : tie.Need-sub-if3
+sub-if3 c = search needs
+
+-- src/extension.rt:81:13
+returns-3 : tie.Need-returns-3
+returns-3 c = ?
+
+-- src/extension.rt:83:33
+add-wide : tie.Need-add-wide
+add-wide c = search needs
+
+-- src/extension.rt:83:24
+shared-slice-read-wide : tie.Need-shared-slice-read-wide
+shared-slice-read-wide c = search needs
+
+-- src/extension.rt:83:13
+wide-requires : tie.Need-wide-requires
+wide-requires c κs = search needs
+
+-- src/extension.rt:84:12
+sub-if4 : tie.Need-sub-if4
+sub-if4 c = search needs
+
+-- src/extension.rt:84:12
+sub-if4-2 : tie.Need-sub-if4-2
+sub-if4-2 c = search needs
+
+-- src/extension.rt:85:13
+returns-4 : tie.Need-returns-4
+returns-4 c = ?
+
+-- src/extension.rt:87:31
+add-t9 : tie.Need-add-t9
+add-t9 c = search needs
+
+-- src/extension.rt:91:25
+shared-slice-read-t11 : tie.Need-shared-slice-read-t11
+shared-slice-read-t11 c = search needs
+
+-- src/extension.rt:92:21
+add-t9-2 : tie.Need-add-t9-2
+add-t9-2 c = search needs
+
+-- src/extension.rt:92:21
+add-t12 : tie.Need-add-t12
+add-t12 c = search needs
+
+-- src/extension.rt:69:5
+returns-5 : tie.Need-returns-5
+returns-5 c = ?
+
+pub step-spec : {M : Type 1} → statement M
+step-spec =
+    tie.close
+    (tie.spec
+    returns
+    returns-2
+    sub-if3
+    returns-3
+    add-wide
+    shared-slice-read-wide
+    wide-requires
+    sub-if4
+    sub-if4-2
+    returns-4
+    add-t9
+    shared-slice-read-t11
+    add-t9-2
+    add-t12
+    returns-5)

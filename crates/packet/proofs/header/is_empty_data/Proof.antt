@@ -1,0 +1,60 @@
+use borrow.Author.Needs.{needs}
+use Rattle.packet.proofs.header.is_empty_data.Statement.{statement}
+use Rattle.packet.proofs.header.is_empty_data.Tie as tie
+use Rattle.packet.proofs.header.is_empty_data.Reads as reads
+use Rattle.packet.proofs.header.is_empty_data.Lts as lts
+
+-- src/header.rt:79:29
+enum-told : tie.Need-enum-told
+enum-told c = search needs
+
+-- src/header.rt:80:28
+enum-told-2 : tie.Need-enum-told-2
+enum-told-2 c = search needs
+
+-- src/header.rt:81:30
+enum-told-3 : tie.Need-enum-told-3
+enum-told-3 c = search needs
+
+-- src/header.rt:82:30
+enum-told-4 : tie.Need-enum-told-4
+enum-told-4 c = search needs
+
+-- src/header.rt:83:28
+enum-told-5 : tie.Need-enum-told-5
+enum-told-5 c = search needs
+
+-- src/header.rt:74:1
+returns : tie.Need-returns
+returns c = ?
+
+-- src/header.rt:74:1
+returns-2 : tie.Need-returns-2
+returns-2 c = ?
+
+-- src/header.rt:74:1
+returns-3 : tie.Need-returns-3
+returns-3 c = ?
+
+-- src/header.rt:74:1
+returns-4 : tie.Need-returns-4
+returns-4 c = ?
+
+-- src/header.rt:74:1
+returns-5 : tie.Need-returns-5
+returns-5 c = ?
+
+pub is-empty-data-spec : {M : Type 1} → statement M
+is-empty-data-spec =
+    tie.close
+    (tie.spec
+    enum-told
+    enum-told-2
+    enum-told-3
+    enum-told-4
+    enum-told-5
+    returns
+    returns-2
+    returns-3
+    returns-4
+    returns-5)

@@ -1,0 +1,51 @@
+use borrow.Author.Needs.{needs}
+use Rattle.packet.proofs.number.read16.Statement.{statement}
+use Rattle.packet.proofs.number.read16.Tie as tie
+use Rattle.packet.proofs.number.read16.Reads as reads
+use Rattle.packet.proofs.number.read16.Lts as lts
+use Rattle.packet.proofs.number.wide16.Reads as wide16-reads
+
+-- src/number.rt:24:12
+shared-slice-read-wide16 : tie.Need-shared-slice-read-wide16
+shared-slice-read-wide16 c = search needs
+
+-- src/number.rt:24:5
+wide16-requires : tie.Need-wide16-requires
+wide16-requires c κs = search needs
+
+-- src/number.rt:24:5
+mul-result : tie.Need-mul-result
+mul-result c = ?
+
+-- src/number.rt:24:36
+add-wide16 : tie.Need-add-wide16
+add-wide16 c = search needs
+
+-- src/number.rt:24:34
+shared-slice-read-wide16-2 : tie.Need-shared-slice-read-wide16-2
+shared-slice-read-wide16-2 c = search needs
+
+-- src/number.rt:24:27
+wide16-requires-2 : tie.Need-wide16-requires-2
+wide16-requires-2 c κs = search needs
+
+-- src/number.rt:24:5
+add-result : tie.Need-add-result
+add-result c = ?
+
+-- src/number.rt:20:1
+returns : tie.Need-returns
+returns c = ?
+
+pub read16-spec : {M : Type 1} → statement M
+read16-spec =
+    tie.close
+    (tie.spec
+    shared-slice-read-wide16
+    wide16-requires
+    mul-result
+    add-wide16
+    shared-slice-read-wide16-2
+    wide16-requires-2
+    add-result
+    returns)

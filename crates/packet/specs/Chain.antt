@@ -1,0 +1,78 @@
+-- The chain of extensions (document 01, "Packets on the wire"; BEP 29 facts, section 2). Definitions only.
+use Prim.Native.Nat.{ℕ, zero, suc, _+_, _-_}
+use mathlib.Core.Bool.{Bool, true, false, cond}
+use mathlib.Core.List.{List, [], _∷_}
+use lib.ListN.{length, getD}
+use lib.Dec.{leb, eqb}
+use Rattle.packet.specs.declared.extension.Cursor.{Cursor}
+use Rattle.packet.specs.declared.extension.Extension.{Extension}
+use Rattle.packet.specs.declared.extension.Part.{Part}
+use Rattle.packet.specs.declared.extension.End.{End}
+use Rattle.packet.specs.declared.extension.End.the-variants.{PastEnd, At}
+use Rattle.packet.specs.declared.extension.ChainRead.{ChainRead}
+use Rattle.packet.specs.declared.extension.ChainRead.the-variants.{Past, Plain, WithSack}
+use Rattle.packet.specs.declared.extension.Step.{Step}
+use Rattle.packet.specs.declared.extension.Step.the-variants.{Ends, RunsPast, Found}
+
+-- Where the current extension is 0 the chain ends. Else two bytes stand at the place: the next extension and the length, and that many bytes behind them.
+-- A head or a body that runs past the end of the datagram is a fault.
+abbrev pub stepOf : List ℕ → Cursor → Step
+stepOf d c =
+    cond (eqb (c .number) 0)
+    Ends
+    (cond (leb (c .at + 2) (length d))
+    (cond (leb (c .at + 2 + getD d (c .at + 1) 0) (length d))
+    (Found
+    (record { number = c .number; body = record { at = c .at + 2; len = getD d (c .at + 1) 0 } })
+    (record { number = getD d (c .at) 0; at = c .at + 2 + getD d (c .at + 1) 0 }))
+    RunsPast)
+    RunsPast)
+
+-- A chain from a place on: it runs past the end, or it is a list of extensions, each with its number and its body's place and length, and the
+-- place behind the last.
+pub data Chain : Type 0 where
+  past : Chain
+  whole : List Extension → ℕ → Chain
+
+abbrev pub before : Extension → Chain → Chain
+before e past = past
+before e (whole es at) = whole (e ∷ es) at
+
+-- While the current extension is not 0: one step, and then the chain from there. Each step goes forward by two bytes or more, so as many
+-- steps as there are bytes, and one, are enough (`chain-step` in Laws.Chain says it with no count).
+abbrev pub chainBy : ℕ → List ℕ → Cursor → Chain
+chainBy zero d c = past
+chainBy (suc steps) d c =
+    elim (stepOf d c) [
+      | Ends ↦ whole [] (c .at)
+      | RunsPast ↦ past
+      | Found e next ↦ before e (chainBy steps d next)
+    ]
+
+abbrev pub chainFrom : List ℕ → Cursor → Chain
+chainFrom d c = chainBy (suc (length d)) d c
+
+-- The body of the first extension that is a SACK (number 1); no SACK is a part of no bytes. Unknown ones are stepped over, later SACKs ignored.
+abbrev pub none : Part
+none = record { at = 0; len = 0 }
+
+pub data Sacked : Type 0 where
+  nowhere : Sacked
+  inside : Part → Sacked
+
+abbrev pub firstSack : List Extension → Sacked
+firstSack [] = nowhere
+firstSack (e ∷ es) = cond (eqb (e .number) 1) (inside (e .body)) (firstSack es)
+
+-- What is kept of a chain: it runs past the end, or where it ends, and with it the body of the first SACK where there is one.
+abbrev pub endOf : Chain → End
+endOf past = PastEnd
+endOf (whole es at) = At at
+
+abbrev pub sackRead : Sacked → ℕ → ChainRead
+sackRead nowhere at = Plain at
+sackRead (inside p) at = WithSack p at
+
+abbrev pub readOf : Chain → ChainRead
+readOf past = Past
+readOf (whole es at) = sackRead (firstSack es) at

@@ -1,0 +1,100 @@
+// Reading a datagram. Any bytes get an answer.
+ghost use Prim.Native.Nat.{_≤_};
+ghost use mathlib.Core.Path.{_≡_};
+ghost use lib.ListN.{length};
+ghost use Rattle.common.specs.Answer.{done};
+ghost use Rattle.packet.specs.Decode.{decodeOf, behindHeader, chainOf, packetOf, payloadAnswer};
+ghost use Rattle.packet.specs.Answers.{decoded};
+
+use crate::extension::{ChainRead, Cursor, Part, read_chain};
+use crate::header::{Header, HeaderReason, PacketType, TypeRead, is_empty_data, read_header};
+use crate::sack::SackReason;
+
+// A datagram that was read: its header, the first SACK (no bytes where there is none), and the
+// payload, the two as parts of the datagram.
+pub struct Packet {
+    pub header: Header,
+    pub sack: Part,
+    pub payload: Part,
+}
+
+// Why a datagram is refused: header 1, 2, 3; extension 4; SACK 5, 6; payload 7.
+pub enum Reason {
+    InHeader(HeaderReason),
+    InExtension,
+    InSack(SackReason),
+    EmptyPayload,
+}
+
+pub enum Decoded {
+    Accepted(Packet),
+    Undecoded(Reason),
+}
+
+impl Packet {
+    // The size of a header in bytes.
+    pub const HEADER_LEN: usize = 20;
+
+    // Reads a datagram. Refuses with 1, 2, 3, 4, 5, 6, 7, checked in this order.
+    pub fn decode(datagram: &[u8]) -> Decoded
+        ensures { λ r. ⌜ decoded r ≡ decodeOf (now (datagram .entry)) ⌝ }
+    {
+        if datagram.len() < 20 {
+            return Decoded::Undecoded(Reason::InHeader(HeaderReason::TooShort));
+        }
+        let first = datagram[0];
+        match PacketType::of_number(first / 16) {
+            TypeRead::Unknown => Decoded::Undecoded(Reason::InHeader(HeaderReason::UnknownType)),
+            TypeRead::Known(packet_type) => {
+                if first % 16 == 1 {
+                    decode_chain(datagram, read_header(datagram, packet_type))
+                } else {
+                    Decoded::Undecoded(Reason::InHeader(HeaderReason::UnknownVersion))
+                }
+            }
+        }
+    }
+}
+
+// What stands behind a good header.
+fn decode_chain(datagram: &[u8], header: Header) -> Decoded
+    requires { ⌜ 20 ≤ length (now datagram) ⌝ }
+    ensures { λ r. ⌜ decoded r ≡ behindHeader header (length (now (datagram .entry))) (chainOf (now (datagram .entry))) ⌝ }
+{
+    let size = datagram.len();
+    match read_chain(
+        datagram,
+        Cursor {
+            number: datagram[1],
+            at: 20,
+        },
+    ) {
+        ChainRead::Past => Decoded::Undecoded(Reason::InExtension),
+        ChainRead::Plain(at) => finish(size, header, Part { at: 0, len: 0 }, at),
+        ChainRead::WithSack(sack, at) => {
+            if sack.len < 4 {
+                return Decoded::Undecoded(Reason::InSack(SackReason::Insufficient));
+            }
+            if sack.len % 4 != 0 {
+                return Decoded::Undecoded(Reason::InSack(SackReason::NotWords));
+            }
+            finish(size, header, sack, at)
+        }
+    }
+}
+
+// The payload is all that is left of a datagram of `size` bytes from `at` on.
+fn finish(size: usize, header: Header, sack: Part, at: usize) -> Decoded
+    ensures { λ r. ⌜ decoded r ≡ packetOf header (done sack) (payloadAnswer header size at) ⌝ }
+{
+    let len = if at <= size { size - at } else { 0 };
+    if is_empty_data(header, len) {
+        return Decoded::Undecoded(Reason::EmptyPayload);
+    }
+    let payload = Part { at, len };
+    Decoded::Accepted(Packet {
+        header,
+        sack,
+        payload,
+    })
+}

@@ -1,0 +1,78 @@
+// Writing a packet into room that the caller lends. Nothing is written on a refusal.
+ghost use Prim.Native.Nat.{_+_, _^_, _≤_};
+ghost use mathlib.Core.Path.{_≡_};
+ghost use lib.ListN.{length};
+ghost use Rattle.common.specs.Laws.Put.{put};
+ghost use Rattle.packet.specs.Encode.{encodeOf, roomOf, packetBytes, sizeOf};
+ghost use Rattle.packet.specs.Answers.{encoded};
+
+use crate::decode::Packet;
+use crate::header::{Header, is_empty_data, put_header};
+use crate::number::put_all;
+use crate::sack::{Checked, SackReason, check};
+
+// Why a packet is not written: its SACK's length 5, 6, 8; Data with no payload 7; room 9.
+pub enum Unwritten {
+    BadSack(SackReason),
+    NoPayload,
+    NoRoom,
+}
+
+pub enum Encoded {
+    Written(usize),
+    Refused(Unwritten),
+}
+
+impl Packet {
+    // Writes the packet of a header, a SACK (no bytes: none) and a payload to the front of the
+    // room, and answers its size. Refuses with 5, 6, 8, 7, 9, checked in this order.
+    pub fn encode(header: Header, sack: &[u8], payload: &[u8], room: &mut [u8]) -> Encoded
+        ensures { λ r. ⌜ (encoded r ≡ encodeOf header (now (sack .entry)) (now (payload .entry)) (length (now (room .entry))))
+            × (now (room .exit) ≡ roomOf header (now (sack .entry)) (now (payload .entry)) (now (room .entry))) ⌝ }
+    {
+        match check(sack.len()) {
+            Checked::Bad(reason) => Encoded::Refused(Unwritten::BadSack(reason)),
+            Checked::Fine(extended) => {
+                if is_empty_data(header, payload.len()) {
+                    return Encoded::Refused(Unwritten::NoPayload);
+                }
+                let size = size_of(extended, payload.len());
+                if room.len() < size {
+                    return Encoded::Refused(Unwritten::NoRoom);
+                }
+                put_packet(room, header, sack, payload);
+                Encoded::Written(size)
+            }
+        }
+    }
+}
+
+// The size of a packet with a SACK of so many bytes.
+fn size_of(sack_len: usize, payload_len: usize) -> usize
+    requires { ⌜ («sack_len» ≤ 252) × («payload_len» + 1 ≤ 2 ^ 63) ⌝ }
+    ensures { λ r. ⌜ r ≡ sizeOf «sack_len» «payload_len» ⌝ }
+{
+    if sack_len == 0 {
+        20 + payload_len
+    } else {
+        22 + sack_len + payload_len
+    }
+}
+
+// Writes the three pieces one behind another.
+fn put_packet(room: &mut [u8], header: Header, sack: &[u8], payload: &[u8])
+    requires { ⌜ length (packetBytes header (now sack) (now payload)) ≤ length (now room) ⌝ }
+    requires { ⌜ length (now sack) ≤ 252 ⌝ }
+    ensures { λ _. ⌜ now (room .exit) ≡ put (now (room .entry)) 0 (packetBytes header (now (sack .entry)) (now (payload .entry))) ⌝ }
+{
+    if sack.len() == 0 {
+        put_header(room, header, 0);
+        put_all(room, 20, payload);
+    } else {
+        put_header(room, header, 1);
+        room[20] = 0;
+        room[21] = sack.len() as u8;
+        put_all(room, 22, sack);
+        put_all(room, 22 + sack.len(), payload);
+    }
+}

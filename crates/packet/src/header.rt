@@ -1,0 +1,117 @@
+// The 20 bytes that every packet begins with.
+ghost use Prim.Native.Nat.{_≤_};
+ghost use mathlib.Core.Path.{_≡_};
+ghost use lib.ListN.{length};
+ghost use Rattle.common.specs.Laws.Put.{put};
+ghost use Rattle.packet.specs.Layout.{typeNumber, typeAnswer, widths, bytesOf, fieldsOfHeader, headerWith, emptyData};
+ghost use Rattle.packet.specs.Answers.{typeRead};
+
+use crate::number::{read16, read32, put16, put32};
+use crate::seq::SeqNum;
+
+pub enum PacketType {
+    Data,
+    Fin,
+    State,
+    Reset,
+    Syn,
+}
+
+// What stands in a header: all but the version, which is 1, and the first extension, which goes
+// with the chain.
+pub struct Header {
+    pub packet_type: PacketType,
+    pub conn_id: u16,
+    pub ts_micros: u32,
+    pub ts_diff_micros: u32,
+    pub window_size: u32,
+    pub seq_num: SeqNum,
+    pub ack_num: SeqNum,
+}
+
+// Why a datagram has no header: 1, 2, 3.
+pub enum HeaderReason {
+    TooShort,
+    UnknownType,
+    UnknownVersion,
+}
+
+pub enum TypeRead {
+    Known(PacketType),
+    Unknown,
+}
+
+impl PacketType {
+    // The type's number on the wire.
+    pub fn number(self) -> u8
+        ensures { λ r. ⌜ r ≡ typeNumber self ⌝ }
+    {
+        match self {
+            PacketType::Data => 0,
+            PacketType::Fin => 1,
+            PacketType::State => 2,
+            PacketType::Reset => 3,
+            PacketType::Syn => 4,
+        }
+    }
+
+    // The type of a number, which is unknown (2) above 4.
+    pub fn of_number(n: u8) -> TypeRead
+        ensures { λ r. ⌜ typeRead r ≡ typeAnswer n ⌝ }
+    {
+        match n {
+            0 => TypeRead::Known(PacketType::Data),
+            1 => TypeRead::Known(PacketType::Fin),
+            2 => TypeRead::Known(PacketType::State),
+            3 => TypeRead::Known(PacketType::Reset),
+            4 => TypeRead::Known(PacketType::Syn),
+            _ => TypeRead::Unknown,
+        }
+    }
+}
+
+// Is this Data with an empty payload?
+pub(crate) fn is_empty_data(header: Header, size: usize) -> bool
+    ensures { λ r. ⌜ r ≡ emptyData header size ⌝ }
+{
+    let packet_type = header.packet_type;
+    match packet_type {
+        PacketType::Data => size == 0,
+        PacketType::Fin => false,
+        PacketType::State => false,
+        PacketType::Reset => false,
+        PacketType::Syn => false,
+    }
+}
+
+// The fields of a header of this type.
+pub(crate) fn read_header(datagram: &[u8], packet_type: PacketType) -> Header
+    requires { ⌜ 20 ≤ length (now datagram) ⌝ }
+    ensures { λ r. ⌜ r ≡ headerWith «packet_type» (now (datagram .entry)) ⌝ }
+{
+    Header {
+        packet_type,
+        conn_id: read16(datagram, 2),
+        ts_micros: read32(datagram, 4),
+        ts_diff_micros: read32(datagram, 8),
+        window_size: read32(datagram, 12),
+        seq_num: SeqNum(read16(datagram, 16)),
+        ack_num: SeqNum(read16(datagram, 18)),
+    }
+}
+
+// Writes the 20 bytes of a header to the front of the room.
+pub(crate) fn put_header(room: &mut [u8], header: Header, extension: u8)
+    requires { ⌜ 20 ≤ length (now room) ⌝ }
+    ensures { λ _. ⌜ now (room .exit) ≡ put (now (room .entry)) 0 (bytesOf widths (fieldsOfHeader header extension)) ⌝ }
+{
+    let packet_type = header.packet_type;
+    room[0] = packet_type.number() * 16 + 1;
+    room[1] = extension;
+    put16(room, 2, header.conn_id);
+    put32(room, 4, header.ts_micros);
+    put32(room, 8, header.ts_diff_micros);
+    put32(room, 12, header.window_size);
+    put16(room, 16, header.seq_num.0);
+    put16(room, 18, header.ack_num.0);
+}
