@@ -38,18 +38,19 @@ abbrev pub before : Extension → Chain → Chain
 before e past = past
 before e (whole es at) = whole (e ∷ es) at
 
--- While the current extension is not 0: one step, and then the chain from there. Each step goes forward by two bytes or more, so as many
--- steps as there are bytes, and one, are enough (`chain-step` in Laws.Chain says it with no count).
+-- What a step makes of the chain: it ends here, it runs past the end, or the extension found and then the chain from the next place.
+abbrev pub goOn : ℕ → Step → (Cursor → Chain) → Chain
+goOn at Ends rest = whole [] at
+goOn at RunsPast rest = past
+goOn at (Found e next) rest = before e (rest next)
+
+-- While the current extension is not 0: one step, and then the chain from there. Each step goes forward by two bytes or more, so one step more than there are
+-- bytes is never used up (`chain-step` of Laws.Chain says this with no count of steps).
 abbrev pub chainBy : ℕ → List ℕ → Cursor → Chain
 chainBy zero d c = past
-chainBy (suc steps) d c =
-    elim (stepOf d c) [
-      | Ends ↦ whole [] (c .at)
-      | RunsPast ↦ past
-      | Found e next ↦ before e (chainBy steps d next)
-    ]
+chainBy (suc steps) d c = goOn (c .at) (stepOf d c) (λ next. chainBy steps d next)
 
-abbrev pub chainFrom : List ℕ → Cursor → Chain
+unfoldable pub chainFrom : List ℕ → Cursor → Chain
 chainFrom d c = chainBy (suc (length d)) d c
 
 -- The body of the first extension that is a SACK (number 1); no SACK is a part of no bytes. Unknown ones are stepped over, later SACKs ignored.

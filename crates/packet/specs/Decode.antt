@@ -1,7 +1,7 @@
 -- What decoding a datagram answers (document 01, "Packets on the wire" and "Answer numbers" 1 to 7). Definitions only.
 use Prim.Native.Nat.{ℕ, _-_, _%_}
 use mathlib.Core.Bool.{Bool, true, false, cond}
-use mathlib.Core.List.{List}
+use mathlib.Core.List.{List, []}
 use lib.ListN.{length, take, drop}
 use lib.Dec.{ltb, leb, eqb}
 use Rattle.common.specs.Answer.{Answer, done, refused, _then_}
@@ -48,4 +48,4 @@ decodeOf d = headerAnswer d then behindHeader (headerOf d) (length d) (chainOf d
 
 -- The bytes of a part; nothing where it does not lie within the datagram.
 abbrev pub partOf : Part → List ℕ → List ℕ
-partOf p d = cond (leb (p .at) (length d)) (cond (leb (p .len) (length d - p .at)) (take (p .len) (drop (p .at) d)) (take 0 d)) (take 0 d)
+partOf p d = cond (leb (p .at) (length d)) (cond (leb (p .len) (length d - p .at)) (take (p .len) (drop (p .at) d)) []) []

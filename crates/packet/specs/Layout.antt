@@ -21,11 +21,11 @@ bytes zero n = []
 bytes (suc width) n = (n / 256 ^ width % 256) ∷ bytes width n
 
 -- What is read from bytes that are laid out in fields of these widths, and what is written for these values.
-abbrev pub fieldsOf : List ℕ → List ℕ → List ℕ
+unfoldable pub fieldsOf : List ℕ → List ℕ → List ℕ
 fieldsOf [] l = []
 fieldsOf (w ∷ ws) l = big (take w l) ∷ fieldsOf ws (drop w l)
 
-abbrev pub bytesOf : List ℕ → List ℕ → List ℕ
+unfoldable pub bytesOf : List ℕ → List ℕ → List ℕ
 bytesOf [] vs = []
 bytesOf (w ∷ ws) [] = []
 bytesOf (w ∷ ws) (v ∷ vs) = bytes w v ++ bytesOf ws vs
@@ -58,7 +58,7 @@ abbrev pub typeAnswer : ℕ → Answer PacketType
 typeAnswer n = cond (ltb 4 n) (refused 2) (done (typeOf n))
 
 -- The type stands in the high four bits of the first byte, the version in the low four; the version is 1.
-abbrev pub fieldsOfHeader : Header → ℕ → List ℕ
+unfoldable pub fieldsOfHeader : Header → ℕ → List ℕ
 fieldsOfHeader h extension =
     (16 * typeNumber (h .«packet_type») + 1)
     ∷ extension

@@ -7,3 +7,4 @@ pub mod Decode
 pub mod Encode
 pub mod Answers
 pub mod Marked
+pub mod Laws

@@ -1,5 +1,5 @@
 // Reading a datagram. Any bytes get an answer.
-ghost use Prim.Native.Nat.{_≤_};
+ghost use Prim.Native.Nat.{_-_, _≤_};
 ghost use mathlib.Core.Path.{_≡_};
 ghost use lib.ListN.{length};
 ghost use Rattle.common.specs.Answer.{done};
@@ -87,7 +87,7 @@ fn decode_chain(datagram: &[u8], header: Header) -> Decoded
 fn finish(size: usize, header: Header, sack: Part, at: usize) -> Decoded
     ensures { λ r. ⌜ decoded r ≡ packetOf header (done sack) (payloadAnswer header size at) ⌝ }
 {
-    let len = if at <= size { size - at } else { 0 };
+    let len = less(size, at);
     if is_empty_data(header, len) {
         return Decoded::Undecoded(Reason::EmptyPayload);
     }
@@ -97,4 +97,11 @@ fn finish(size: usize, header: Header, sack: Part, at: usize) -> Decoded
         sack,
         payload,
     })
+}
+
+// a less b, or 0.
+fn less(a: usize, b: usize) -> usize
+    ensures { λ r. ⌜ r ≡ a - b ⌝ }
+{
+    if b <= a { a - b } else { 0 }
 }

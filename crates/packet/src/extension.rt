@@ -120,9 +120,10 @@ pub(crate) fn read_chain(datagram: &[u8], from: Cursor) -> ChainRead
             Step::RunsPast => return ChainRead::Past,
             Step::Found(extension, next) => {
                 if extension.number == 1 {
+                    let body = extension.body;
                     return match chain_end(datagram, next) {
                         End::PastEnd => ChainRead::Past,
-                        End::At(at) => ChainRead::WithSack(extension.body, at),
+                        End::At(at) => ChainRead::WithSack(body, at),
                     };
                 }
                 cursor = next;

@@ -1,3 +1,5 @@
+-- `size_of` meets its contract: the test says which case of `sizeOf` holds.
+use borrow.Author.Tests.{eq-eqb, ne-eqb}
 use borrow.Author.Needs.{needs}
 use Rattle.packet.proofs.encode.size_of.Statement.{statement}
 use Rattle.packet.proofs.encode.size_of.Tie as tie
@@ -18,11 +20,11 @@ add-result-3 c = search needs
 
 -- src/encode.rt:51:1
 returns : tie.Need-returns
-returns c = ?
+returns c = simp (eq-eqb _ _ (c .if1 .taken))
 
 -- src/encode.rt:51:1
 returns-2 : tie.Need-returns-2
-returns-2 c = ?
+returns-2 c = simp (ne-eqb _ _ (c .if1 .left))
 
 pub size-of-spec : {M : Type 1} → statement M
 size-of-spec = tie.close (tie.spec add-result add-result-2 add-result-3 returns returns-2)

@@ -1,3 +1,4 @@
+-- `is_empty_data` meets its contract: in each arm the type is known, and the definition computes.
 use borrow.Author.Needs.{needs}
 use Rattle.packet.proofs.header.is_empty_data.Statement.{statement}
 use Rattle.packet.proofs.header.is_empty_data.Tie as tie
@@ -26,23 +27,23 @@ enum-told-5 c = search needs
 
 -- src/header.rt:74:1
 returns : tie.Need-returns
-returns c = ?
+returns c = simp (c .enum-told .given .1)
 
 -- src/header.rt:74:1
 returns-2 : tie.Need-returns-2
-returns-2 c = ?
+returns-2 c = simp (c .enum-told2 .given .1)
 
 -- src/header.rt:74:1
 returns-3 : tie.Need-returns-3
-returns-3 c = ?
+returns-3 c = simp (c .enum-told3 .given .1)
 
 -- src/header.rt:74:1
 returns-4 : tie.Need-returns-4
-returns-4 c = ?
+returns-4 c = simp (c .enum-told4 .given .1)
 
 -- src/header.rt:74:1
 returns-5 : tie.Need-returns-5
-returns-5 c = ?
+returns-5 c = simp (c .enum-told5 .given .1)
 
 pub is-empty-data-spec : {M : Type 1} → statement M
 is-empty-data-spec =

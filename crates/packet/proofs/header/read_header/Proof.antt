@@ -1,3 +1,5 @@
+-- `read_header` meets its contract: each field is read at the sum of the widths before it.
+use Rattle.packet.specs.Laws.Layout.{header-fields}
 use borrow.Author.Needs.{needs}
 use Rattle.packet.proofs.header.read_header.Statement.{statement}
 use Rattle.packet.proofs.header.read_header.Tie as tie
@@ -32,7 +34,14 @@ read16-requires-3 c κs = search needs
 
 -- src/header.rt:88:1
 returns : tie.Need-returns
-returns c = ?
+returns c = simp
+    (c .before .before .before .before .before .read16 .ensures,
+    c .before .before .before .before .read32 .ensures,
+    c .before .before .before .read322 .ensures,
+    c .before .before .read323 .ensures,
+    c .before .read162 .ensures,
+    c .read163 .ensures,
+    header-fields)
 
 pub read-header-spec : {M : Type 1} → statement M
 read-header-spec =

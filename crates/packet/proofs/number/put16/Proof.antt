@@ -1,3 +1,11 @@
+-- `put16` meets its contract: two stores one behind the other, of the two bytes of the number.
+use Prim.Native.Nat.{_/_, _%_}
+use native.Mathlib.Omega.{arith}
+use mathlib.Core.Path.{_∙_, ap, sym}
+use lib.ListN.{length-set}
+use denote.Ref.{now}
+use Rattle.common.specs.Laws.Put.{put, set-two}
+use Rattle.packet.specs.Laws.Number.{bytes-two}
 use borrow.Author.Needs.{needs}
 use Rattle.packet.proofs.number.put16.Statement.{statement}
 use Rattle.packet.proofs.number.put16.Tie as tie
@@ -22,7 +30,7 @@ add-room c = search needs
 
 -- src/number.rt:39:5
 slice-write-room-2 : tie.Need-slice-write-room-2
-slice-write-room-2 c = ?
+slice-write-room-2 c = simp length-set (omega arith)
 
 -- src/number.rt:34:1
 same-length : tie.Need-same-length
@@ -30,7 +38,10 @@ same-length c = search needs
 
 -- src/number.rt:34:1
 returns : tie.Need-returns
-returns c = ?
+returns c =
+    let a = c .args in
+    set-two (now (a .room)) (a .at) (a .n / 256) (a .n % 256) (c .pre)
+    ∙ ap (put (now (a .room)) (a .at)) (sym (bytes-two (a .n) (search needs)))
 
 pub put16-spec : {M : Type 1} → statement M
 put16-spec =

@@ -1,3 +1,12 @@
+-- `put32` meets its contract: four bytes are twice two, one behind the other.
+use Prim.Native.Nat.{ℕ, _+_, _/_, _%_}
+use native.Mathlib.Omega.{arith}
+use mathlib.Core.Path.{_∙_, ap, sym}
+use mathlib.Core.List.{List}
+use denote.Ref.{now}
+use Rattle.common.specs.Laws.Put.{put, put-put}
+use Rattle.packet.specs.Layout.{bytes}
+use Rattle.packet.specs.Laws.Number.{bytes-four}
 use borrow.Author.Needs.{needs}
 use Rattle.packet.proofs.number.put32.Statement.{statement}
 use Rattle.packet.proofs.number.put32.Tie as tie
@@ -31,7 +40,12 @@ same-length c = search needs
 
 -- src/number.rt:42:1
 returns : tie.Need-returns
-returns c = ?
+returns c = let a = c .before .before .before .before .before .before .before .before .before .args in
+    let high = bytes 2 (a .n / 65536) in
+    let low = bytes 2 (a .n % 65536) in
+    c .before .before .put162 .ensures
+    ∙ (ap (λ (t : List ℕ). put t (a .at + 2) low) (c .before .before .before .before .before .before .put16 .ensures)
+    ∙ (put-put (now (a .room)) high low (a .at) (omega arith) ∙ ap (put (now (a .room)) (a .at)) (sym (bytes-four (a .n)))))
 
 pub put32-spec : {M : Type 1} → statement M
 put32-spec =

@@ -1,3 +1,7 @@
+-- `is_set` meets its contract: the byte at bit / 8, shifted, shows the bit; past the end the definition reads 0.
+use lib.ListN.{List·getD-eq-default}
+use native.Mathlib.Nat.{zero-div}
+use denote.Ref.{now}
 use borrow.Author.Needs.{needs}
 use Rattle.packet.proofs.sack.is_set.Statement.{statement}
 use Rattle.packet.proofs.sack.is_set.Tie as tie
@@ -22,7 +26,7 @@ returns c = search needs
 
 -- src/sack.rt:54:1
 returns-2 : tie.Need-returns-2
-returns-2 c = ?
+returns-2 c = simp (List·getD-eq-default (now (c .before .args .mask)) 0 (c .if1 .left), zero-div)
 
 pub is-set-spec : {M : Type 1} → statement M
 is-set-spec =

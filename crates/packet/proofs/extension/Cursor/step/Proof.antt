@@ -1,3 +1,10 @@
+-- `step` meets its contract: at each `return` the tests that led there say which case of `stepOf` holds.
+use Prim.Native.Nat.{_+_, _≤_, _<_}
+use native.Mathlib.Omega.{arith}
+use borrow.Author.Tests.{eq-eqb, ne-eqb, le-leb, lt-leb}
+use mathlib.Core.Path.{_≡_}
+use lib.ListN.{length, getD}
+use denote.Ref.{now}
 use borrow.Author.Needs.{needs}
 use Rattle.packet.proofs.extension.Cursor.step.Statement.{statement}
 use Rattle.packet.proofs.extension.Cursor.step.Tie as tie
@@ -7,11 +14,12 @@ use Rattle.packet.proofs.extension.wide.Reads as wide-reads
 
 -- src/extension.rt:75:13
 returns : tie.Need-returns
-returns c = ?
+returns c = simp (eq-eqb _ _ (c .if1 .taken))
 
 -- src/extension.rt:78:13
 returns-2 : tie.Need-returns-2
-returns-2 c = ?
+returns-2 c = let short : length (now (c .before .before .before .args .datagram)) < c .before .before .before .args .self .at + 2 = omega arith in
+    simp (ne-eqb _ _ (c .before .if1 .left), lt-leb _ _ short)
 
 -- src/extension.rt:80:12
 sub-if3 : tie.Need-sub-if3
@@ -19,7 +27,8 @@ sub-if3 c = search needs
 
 -- src/extension.rt:81:13
 returns-3 : tie.Need-returns-3
-returns-3 c = ?
+returns-3 c = let short : length (now (c .before .before .before .before .args .datagram)) < c .before .before .before .before .args .self .at + 2 = omega arith in
+    simp (ne-eqb _ _ (c .before .before .if1 .left), lt-leb _ _ short)
 
 -- src/extension.rt:83:33
 add-wide : tie.Need-add-wide
@@ -43,7 +52,13 @@ sub-if4-2 c = search needs
 
 -- src/extension.rt:85:13
 returns-4 : tie.Need-returns-4
-returns-4 c = ?
+returns-4 c = let a = c .before .before .before .before .before .before .before .args in
+    let d = now (a .datagram) in
+    let at = a .self .at in
+    let len = c .before .wide .ensures in
+    let head : at + 2 ≤ length d = omega arith in
+    let short : length d < at + 2 + getD d (at + 1) 0 = omega (arith, len) in
+    simp (ne-eqb _ _ (c .before .before .before .before .before .if1 .left), le-leb _ _ head, lt-leb _ _ short)
 
 -- src/extension.rt:87:31
 add-t9 : tie.Need-add-t9
@@ -63,7 +78,13 @@ add-t12 c = search needs
 
 -- src/extension.rt:69:5
 returns-5 : tie.Need-returns-5
-returns-5 c = ?
+returns-5 c = let a = c .before .before .before .before .before .before .before .before .args in
+    let d = now (a .datagram) in
+    let at = a .self .at in
+    let len = c .before .before .wide .ensures in
+    let head : at + 2 ≤ length d = omega arith in
+    let body : at + 2 + getD d (at + 1) 0 ≤ length d = omega (arith, len) in
+    simp (ne-eqb _ _ (c .before .before .before .before .before .before .if1 .left), le-leb _ _ head, le-leb _ _ body, len)
 
 pub step-spec : {M : Type 1} → statement M
 step-spec =

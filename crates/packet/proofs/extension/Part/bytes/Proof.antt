@@ -1,3 +1,6 @@
+-- `bytes` meets its contract: at each `return` the tests that led there say which case of `partOf` holds.
+use borrow.Author.Tests.{le-leb, lt-leb}
+use native.Mathlib.Nat.{add-sub-cancel-left}
 use borrow.Author.Needs.{needs}
 use Rattle.packet.proofs.extension.Part.bytes.Statement.{statement}
 use Rattle.packet.proofs.extension.Part.bytes.Tie as tie
@@ -34,15 +37,16 @@ slice-aggregate-result-2 c = search needs
 
 -- src/extension.rt:50:5
 returns : tie.Need-returns
-returns c = ?
+returns c = let a = c .before .before .before .args in
+    simp (le-leb _ _ (c .before .before .if1 .taken), le-leb _ _ (c .before .if2 .taken), add-sub-cancel-left)
 
 -- src/extension.rt:50:5
 returns-2 : tie.Need-returns-2
-returns-2 c = ?
+returns-2 c = simp (le-leb _ _ (c .before .before .if1 .taken), lt-leb _ _ (c .before .if2 .left))
 
 -- src/extension.rt:50:5
 returns-3 : tie.Need-returns-3
-returns-3 c = ?
+returns-3 c = simp (lt-leb _ _ (c .before .if1 .left))
 
 pub bytes-spec : {M : Type 1} → statement M
 bytes-spec =

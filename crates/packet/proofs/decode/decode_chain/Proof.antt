@@ -1,0 +1,72 @@
+use borrow.Author.Needs.{needs}
+use Rattle.packet.proofs.decode.decode_chain.Statement.{statement}
+use Rattle.packet.proofs.decode.decode_chain.Tie as tie
+use Rattle.packet.proofs.decode.decode_chain.Reads as reads
+use Rattle.packet.proofs.decode.decode_chain.Lts as lts
+use Rattle.packet.proofs.decode.finish.Reads as finish-reads
+use Rattle.packet.proofs.extension.read_chain.Reads as read-chain-reads
+
+-- src/decode.rt:68:21
+shared-slice-read-t9 : tie.Need-shared-slice-read-t9
+shared-slice-read-t9 c = search needs
+
+-- src/decode.rt:65:11
+read-chain-requires : tie.Need-read-chain-requires
+read-chain-requires c κs = search needs
+
+-- src/decode.rt:72:47
+enum-told : tie.Need-enum-told
+enum-told c = search needs
+
+-- src/decode.rt:73:26
+enum-known-at : tie.Need-enum-known-at
+enum-known-at c = search needs
+
+-- src/decode.rt:73:33
+finish-requires : tie.Need-finish-requires
+finish-requires c κs = search needs
+
+-- src/decode.rt:74:29
+enum-known-sack : tie.Need-enum-known-sack
+enum-known-sack c = search needs
+
+-- src/decode.rt:76:17
+returns : tie.Need-returns
+returns c = ?
+
+-- src/decode.rt:79:17
+returns-2 : tie.Need-returns-2
+returns-2 c = ?
+
+-- src/decode.rt:81:13
+finish-requires-2 : tie.Need-finish-requires-2
+finish-requires-2 c κs = search needs
+
+-- src/decode.rt:60:1
+returns-3 : tie.Need-returns-3
+returns-3 c = ?
+
+-- src/decode.rt:60:1
+returns-4 : tie.Need-returns-4
+returns-4 c = ?
+
+-- src/decode.rt:60:1
+returns-5 : tie.Need-returns-5
+returns-5 c = ?
+
+pub decode-chain-spec : {M : Type 1} → statement M
+decode-chain-spec =
+    tie.close
+    (tie.spec
+    shared-slice-read-t9
+    read-chain-requires
+    enum-told
+    enum-known-at
+    finish-requires
+    enum-known-sack
+    returns
+    returns-2
+    finish-requires-2
+    returns-3
+    returns-4
+    returns-5)

@@ -1,0 +1,5 @@
+-- Laws about the definitions beside this file, a file for each topic.
+pub mod Number
+pub mod Layout
+pub mod Chain
+pub mod OneToOne

@@ -1,0 +1,95 @@
+-- Laws of the chain: a step goes forward within the datagram, and a chain is its first step and the chain from there.
+use Prim.Native.Nat.{ℕ, zero, suc, _+_, _-_, _≤_, _<_}
+use native.Mathlib.Omega.{arith}
+use mathlib.Core.Bool.{Bool, true, false, cond}
+use mathlib.Core.List.{List, []}
+use mathlib.Core.Path.{_≡_, _∙_, refl, ap, sym}
+use lib.ListN.{length, getD}
+use lib.Dec.{leb, eqb}
+use borrow.Author.Tests.{leb-true}
+use Rattle.packet.specs.Chain.{stepOf, Chain, past, whole, before, goOn, chainBy, chainFrom, endOf, readOf}
+use Rattle.packet.specs.declared.extension.Cursor.{Cursor}
+use Rattle.packet.specs.declared.extension.Extension.{Extension}
+use Rattle.packet.specs.declared.extension.End.the-variants.{PastEnd, At}
+use Rattle.packet.specs.declared.extension.ChainRead.the-variants.{Past, WithSack}
+use Rattle.packet.specs.declared.extension.Step.{Step}
+use Rattle.packet.specs.declared.extension.Step.the-variants.{Ends, RunsPast, Found}
+
+never : {A : Type 0} (e : Extension) (c : Cursor) (s : Step) → s ≡ Ends → s ≡ Found e c → A
+never e c s p q = let z : _≡_ {A = ℕ} 0 1 = cc in absurd (omega arith)
+
+never-past : {A : Type 0} (e : Extension) (c : Cursor) (s : Step) → s ≡ RunsPast → s ≡ Found e c → A
+never-past e c s p q = let z : _≡_ {A = ℕ} 0 1 = cc in absurd (omega arith)
+
+pub found-forward : (d : List ℕ) (c : Cursor) (e : Extension) (next : Cursor) → stepOf d c ≡ Found e next → (c .at + 2 ≤ next .at) × (next .at ≤ length d)
+found-forward d c e next found = go (eqb (c .number) 0) (leb (c .at + 2) (length d)) (leb (c .at + 2 + getD d (c .at + 1) 0) (length d)) refl found
+  where
+    X : Extension
+    X = record { number = c .number; body = record { at = c .at + 2; len = getD d (c .at + 1) 0 } }
+    Y : Cursor
+    Y = record { number = getD d (c .at) 0; at = c .at + 2 + getD d (c .at + 1) 0 }
+    go :
+        (b₁ b₂ b₃ : Bool) → leb (c .at + 2 + getD d (c .at + 1) 0) (length d) ≡ b₃
+        → cond b₁ Ends (cond b₂ (cond b₃ (Found X Y) RunsPast) RunsPast) ≡ Found e next
+        → (c .at + 2 ≤ next .at) × (next .at ≤ length d)
+    go true b₂ b₃ t f = never e next Ends refl f
+    go false false b₃ t f = never-past e next RunsPast refl f
+    go false true false t f = never-past e next RunsPast refl f
+    go false true true t f =
+        let same : Y ≡ next = cc in
+        let at : Y .at ≡ next .at = ap (λ (k : Cursor). k .at) same in
+        let fits : c .at + 2 + getD d (c .at + 1) 0 ≤ length d = leb-true _ _ t in
+        (omega arith, omega arith)
+
+-- More steps than there are bytes left make no difference.
+enough : (d : List ℕ) (n m : ℕ) (c : Cursor) → length d - c .at < n → length d - c .at < m → chainBy n d c ≡ chainBy m d c
+enough d zero m c h k = absurd (omega arith)
+enough d (suc n) zero c h k = absurd (omega arith)
+enough d (suc n) (suc m) c h k = go (stepOf d c) refl (λ c′ h′ k′. enough d n m c′ h′ k′)
+  where
+    go :
+        (s : Step) → stepOf d c ≡ s
+        → ((c′ : Cursor) → length d - c′ .at < n → length d - c′ .at < m → chainBy n d c′ ≡ chainBy m d c′)
+        → goOn (c .at) s (chainBy n d) ≡ goOn (c .at) s (chainBy m d)
+    go Ends e more = refl
+    go RunsPast e more = refl
+    go (Found x next) e more =
+        let forward = found-forward d c x next e in
+        ap (before x) (more next (omega arith) (omega arith))
+
+pub chain-step : (d : List ℕ) (c : Cursor) → chainFrom d c ≡ goOn (c .at) (stepOf d c) (chainFrom d)
+unfolding chainFrom
+chain-step d c = go (stepOf d c) refl
+  where
+    go : (s : Step) → stepOf d c ≡ s → goOn (c .at) s (chainBy (length d) d) ≡ goOn (c .at) s (chainFrom d)
+    go Ends e = refl
+    go RunsPast e = refl
+    go (Found x next) e =
+        let forward = found-forward d c x next e in
+        ap (before x) (enough d (length d) (suc (length d)) next (omega arith) (omega arith))
+
+pub chain-ends : (d : List ℕ) (c : Cursor) → stepOf d c ≡ Ends → chainFrom d c ≡ whole [] (c .at)
+chain-ends d c e = chain-step d c ∙ ap (λ (s : Step). goOn (c .at) s (chainFrom d)) e
+
+pub chain-past : (d : List ℕ) (c : Cursor) → stepOf d c ≡ RunsPast → chainFrom d c ≡ past
+chain-past d c e = chain-step d c ∙ ap (λ (s : Step). goOn (c .at) s (chainFrom d)) e
+
+pub chain-found : (d : List ℕ) (c : Cursor) (x : Extension) (next : Cursor) → stepOf d c ≡ Found x next → chainFrom d c ≡ before x (chainFrom d next)
+chain-found d c x next e = chain-step d c ∙ ap (λ (s : Step). goOn (c .at) s (chainFrom d)) e
+
+-- What is kept of a chain does not turn on an extension before it, unless that is the first SACK.
+pub end-before : (x : Extension) (k : Chain) → endOf (before x k) ≡ endOf k
+end-before x past = refl
+end-before x (whole es at) = refl
+
+pub read-before : (x : Extension) (k : Chain) → eqb (x .number) 1 ≡ false → readOf (before x k) ≡ readOf k
+read-before x past e = refl
+read-before x (whole es at) e = rw e
+
+pub read-sack : (x : Extension) (at : ℕ) (k : Chain) → eqb (x .number) 1 ≡ true → endOf k ≡ At at → readOf (before x k) ≡ WithSack (x .body) at
+read-sack x at past e f = let z : _≡_ {A = ℕ} 0 1 = cc in absurd (omega arith)
+read-sack x at (whole es place) e f = rw e (ap (WithSack (x .body)) (cc))
+
+pub read-past : (x : Extension) (k : Chain) → endOf k ≡ PastEnd → readOf (before x k) ≡ Past
+read-past x past f = refl
+read-past x (whole es at) f = let z : _≡_ {A = ℕ} 0 1 = cc in absurd (omega arith)

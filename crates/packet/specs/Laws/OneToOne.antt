@@ -1,0 +1,1 @@
+-- No two answers have the same number and values.
