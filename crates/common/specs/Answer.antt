@@ -7,7 +7,6 @@ pub data Answer (A : Type 0) : Type 0 where
   refused : ℕ → Answer A
 
 infixr 30 _then_
-
 -- The checks of an order, one after another: the first refusal counts, and where there is none the last answer.
 abbrev pub _then_ : {A B : Type 0} → Answer A → Answer B → Answer B
 done a then b = b

@@ -2,4 +2,6 @@
 pub mod Number
 pub mod Layout
 pub mod Chain
+pub mod Decode
+pub mod Encode
 pub mod OneToOne

@@ -58,7 +58,7 @@ abbrev pub typeAnswer : ℕ → Answer PacketType
 typeAnswer n = cond (ltb 4 n) (refused 2) (done (typeOf n))
 
 -- The type stands in the high four bits of the first byte, the version in the low four; the version is 1.
-unfoldable pub fieldsOfHeader : Header → ℕ → List ℕ
+abbrev pub fieldsOfHeader : Header → ℕ → List ℕ
 fieldsOfHeader h extension =
     (16 * typeNumber (h .«packet_type») + 1)
     ∷ extension

@@ -5,9 +5,16 @@ ghost use lib.ListN.{length};
 ghost use Rattle.common.specs.Answer.{done};
 ghost use Rattle.packet.specs.Decode.{decodeOf, behindHeader, chainOf, packetOf, payloadAnswer};
 ghost use Rattle.packet.specs.Answers.{decoded};
-
-use crate::extension::{ChainRead, Cursor, Part, read_chain};
-use crate::header::{Header, HeaderReason, PacketType, TypeRead, is_empty_data, read_header};
+use crate::extension::ChainRead;
+use crate::extension::Cursor;
+use crate::extension::Part;
+use crate::extension::read_chain;
+use crate::header::Header;
+use crate::header::HeaderReason;
+use crate::header::PacketType;
+use crate::header::TypeRead;
+use crate::header::is_empty_data;
+use crate::header::read_header;
 use crate::sack::SackReason;
 
 // A datagram that was read: its header, the first SACK (no bytes where there is none), and the

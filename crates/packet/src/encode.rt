@@ -1,15 +1,20 @@
 // Writing a packet into room that the caller lends. Nothing is written on a refusal.
 ghost use Prim.Native.Nat.{_+_, _^_, _≤_};
 ghost use mathlib.Core.Path.{_≡_};
+ghost use mathlib.Core.List.{[]};
 ghost use lib.ListN.{length};
 ghost use Rattle.common.specs.Laws.Put.{put};
 ghost use Rattle.packet.specs.Encode.{encodeOf, roomOf, packetBytes, sizeOf};
 ghost use Rattle.packet.specs.Answers.{encoded};
-
 use crate::decode::Packet;
-use crate::header::{Header, is_empty_data, put_header};
+use crate::header::Header;
+use crate::header::is_empty_data;
+use crate::header::put_header;
 use crate::number::put_all;
-use crate::sack::{Checked, SackReason, check};
+use crate::number::put16;
+use crate::sack::Checked;
+use crate::sack::SackReason;
+use crate::sack::check;
 
 // Why a packet is not written: its SACK's length 5, 6, 8; Data with no payload 7; room 9.
 pub enum Unwritten {
@@ -40,7 +45,11 @@ impl Packet {
                 if room.len() < size {
                     return Encoded::Refused(Unwritten::NoRoom);
                 }
-                put_packet(room, header, sack, payload);
+                if extended == 0 {
+                    put_plain(room, header, payload);
+                } else {
+                    put_sacked(room, header, sack, payload);
+                }
                 Encoded::Written(size)
             }
         }
@@ -59,20 +68,23 @@ fn size_of(sack_len: usize, payload_len: usize) -> usize
     }
 }
 
-// Writes the three pieces one behind another.
-fn put_packet(room: &mut [u8], header: Header, sack: &[u8], payload: &[u8])
-    requires { ⌜ length (packetBytes header (now sack) (now payload)) ≤ length (now room) ⌝ }
-    requires { ⌜ length (now sack) ≤ 252 ⌝ }
+// Writes a packet without a SACK: the header, and behind it the payload.
+fn put_plain(room: &mut [u8], header: Header, payload: &[u8])
+    requires { ⌜ 20 + length (now payload) ≤ length (now room) ⌝ }
+    ensures { λ _. ⌜ now (room .exit) ≡ put (now (room .entry)) 0 (packetBytes header [] (now (payload .entry))) ⌝ }
+{
+    put_header(room, header, 0);
+    put_all(room, 20, payload);
+}
+
+// Writes a packet with a SACK. Its next byte, 0, and its length are one number of two bytes.
+fn put_sacked(room: &mut [u8], header: Header, sack: &[u8], payload: &[u8])
+    requires { ⌜ 22 + length (now sack) + length (now payload) ≤ length (now room) ⌝ }
+    requires { ⌜ (1 ≤ length (now sack)) × (length (now sack) ≤ 252) ⌝ }
     ensures { λ _. ⌜ now (room .exit) ≡ put (now (room .entry)) 0 (packetBytes header (now (sack .entry)) (now (payload .entry))) ⌝ }
 {
-    if sack.len() == 0 {
-        put_header(room, header, 0);
-        put_all(room, 20, payload);
-    } else {
-        put_header(room, header, 1);
-        room[20] = 0;
-        room[21] = sack.len() as u8;
-        put_all(room, 22, sack);
-        put_all(room, 22 + sack.len(), payload);
-    }
+    put_header(room, header, 1);
+    put16(room, 20, sack.len() as u16);
+    put_all(room, 22, sack);
+    put_all(room, 22 + sack.len(), payload);
 }

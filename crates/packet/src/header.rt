@@ -1,12 +1,14 @@
 // The 20 bytes that every packet begins with.
-ghost use Prim.Native.Nat.{_≤_};
+ghost use Prim.Native.Nat.{_+_, _*_, _≤_};
 ghost use mathlib.Core.Path.{_≡_};
 ghost use lib.ListN.{length};
 ghost use Rattle.common.specs.Laws.Put.{put};
 ghost use Rattle.packet.specs.Layout.{typeNumber, typeAnswer, widths, bytesOf, fieldsOfHeader, headerWith, emptyData};
 ghost use Rattle.packet.specs.Answers.{typeRead};
-
-use crate::number::{read16, read32, put16, put32};
+use crate::number::put16;
+use crate::number::put32;
+use crate::number::read16;
+use crate::number::read32;
 use crate::seq::SeqNum;
 
 pub enum PacketType {
@@ -100,14 +102,22 @@ pub(crate) fn read_header(datagram: &[u8], packet_type: PacketType) -> Header
     }
 }
 
+// The first two bytes as one number: the type in the high four bits, version 1 in the next four, and
+// the first extension.
+fn front(type_number: u8, extension: u8) -> u16
+    requires { ⌜ «type_number» ≤ 4 ⌝ }
+    ensures { λ r. ⌜ r ≡ (16 * «type_number» + 1) * 256 + extension ⌝ }
+{
+    ((type_number as u16) * 16 + 1) * 256 + (extension as u16)
+}
+
 // Writes the 20 bytes of a header to the front of the room.
 pub(crate) fn put_header(room: &mut [u8], header: Header, extension: u8)
     requires { ⌜ 20 ≤ length (now room) ⌝ }
     ensures { λ _. ⌜ now (room .exit) ≡ put (now (room .entry)) 0 (bytesOf widths (fieldsOfHeader header extension)) ⌝ }
 {
     let packet_type = header.packet_type;
-    room[0] = packet_type.number() * 16 + 1;
-    room[1] = extension;
+    put16(room, 0, front(packet_type.number(), extension));
     put16(room, 2, header.conn_id);
     put32(room, 4, header.ts_micros);
     put32(room, 8, header.ts_diff_micros);

@@ -3,7 +3,6 @@ ghost use mathlib.Core.Path.{_≡_};
 ghost use lib.ListN.{length};
 ghost use Rattle.packet.specs.Sack.{bitCountOf, bitOf, meantBy, maskAnswer};
 ghost use Rattle.packet.specs.Answers.{checked};
-
 use crate::seq::SeqNum;
 
 // What is wrong with a SACK's length: under 32 bits (5), no whole number of 32-bit words (6), above

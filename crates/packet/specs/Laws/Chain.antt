@@ -26,8 +26,10 @@ found-forward d c e next found = go (eqb (c .number) 0) (leb (c .at + 2) (length
   where
     X : Extension
     X = record { number = c .number; body = record { at = c .at + 2; len = getD d (c .at + 1) 0 } }
+
     Y : Cursor
     Y = record { number = getD d (c .at) 0; at = c .at + 2 + getD d (c .at + 1) 0 }
+
     go :
         (b₁ b₂ b₃ : Bool) → leb (c .at + 2 + getD d (c .at + 1) 0) (length d) ≡ b₃
         → cond b₁ Ends (cond b₂ (cond b₃ (Found X Y) RunsPast) RunsPast) ≡ Found e next

@@ -30,7 +30,7 @@ big-two l at h =
 pub big-four : (l : List ℕ) (at : ℕ) → at + 4 ≤ length l → big (take 4 (drop at l)) ≡ big (take 2 (drop at l)) * 65536 + big (take 2 (drop (at + 2) l))
 big-four l at h =
     let pieces : take 4 (drop at l) ≡ take 2 (drop at l) ++ take 2 (drop (at + 2) l) =
-        take-add 2 2 (drop at l) ∙ ap (λ (t : List ℕ). take 2 (drop at l) ++ take 2 t) (drop-drop 2 at l) in
+    take-add 2 2 (drop at l) ∙ ap (λ (t : List ℕ). take 2 (drop at l) ++ take 2 t) (drop-drop 2 at l) in
     let two : length (take 2 (drop (at + 2) l)) ≡ 2 = simp (length-take, length-drop) (omega arith) in
     rw (pieces, big-append, two) refl
 

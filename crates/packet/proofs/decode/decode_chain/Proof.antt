@@ -1,3 +1,10 @@
+-- `decode_chain` meets its contract: what `read_chain` kept of the chain decides, and the tests on the SACK's length say which case of `sackAnswer` holds.
+use mathlib.Core.Path.{_≡_, _∙_, sym, ap}
+use borrow.Author.Tests.{lt-ltb, le-ltb, eq-eqb, ne-eqb}
+use lib.ListN.{length}
+use denote.Ref.{now}
+use Rattle.packet.specs.Decode.{chainOf}
+use Rattle.packet.specs.Laws.Decode.{chain-of, behind-read}
 use borrow.Author.Needs.{needs}
 use Rattle.packet.proofs.decode.decode_chain.Statement.{statement}
 use Rattle.packet.proofs.decode.decode_chain.Tie as tie
@@ -32,11 +39,17 @@ enum-known-sack c = search needs
 
 -- src/decode.rt:76:17
 returns : tie.Need-returns
-returns c = ?
+returns c = let d = now (c .before .before .before .before .before .before .before .before .args .datagram) in
+    let h = c .before .before .before .before .before .before .before .before .args .header in
+    let kept = chain-of d (c .before .before .before .before .before .before .before .before .pre) ∙ (sym (c .before .before .before .before .before .read-chain .ensures) ∙ c .before .before .before .sack .given .1) in
+    simp (behind-read h (length d) (chainOf d) _ kept, lt-ltb _ _ (c .if1 .taken))
 
 -- src/decode.rt:79:17
 returns-2 : tie.Need-returns-2
-returns-2 c = ?
+returns-2 c = let d = now (c .before .before .before .before .before .before .before .before .before .before .args .datagram) in
+    let h = c .before .before .before .before .before .before .before .before .before .before .args .header in
+    let kept = chain-of d (c .before .before .before .before .before .before .before .before .before .before .pre) ∙ (sym (c .before .before .before .before .before .before .before .read-chain .ensures) ∙ c .before .before .before .before .before .sack .given .1) in
+    simp (behind-read h (length d) (chainOf d) _ kept, le-ltb _ _ (c .before .before .if1 .left), ne-eqb _ _ (c .if2 .taken))
 
 -- src/decode.rt:81:13
 finish-requires-2 : tie.Need-finish-requires-2
@@ -44,15 +57,24 @@ finish-requires-2 c κs = search needs
 
 -- src/decode.rt:60:1
 returns-3 : tie.Need-returns-3
-returns-3 c = ?
+returns-3 c = let d = now (c .before .before .before .before .before .args .datagram) in
+    let h = c .before .before .before .before .before .args .header in
+    let kept = chain-of d (c .before .before .before .before .before .pre) ∙ (sym (c .before .before .read-chain .ensures) ∙ c .enum-told .given .1) in
+    sym (behind-read h (length d) (chainOf d) _ kept)
 
 -- src/decode.rt:60:1
 returns-4 : tie.Need-returns-4
-returns-4 c = ?
+returns-4 c = let d = now (c .before .before .before .before .before .before .before .args .datagram) in
+    let h = c .before .before .before .before .before .before .before .args .header in
+    let kept = chain-of d (c .before .before .before .before .before .before .before .pre) ∙ (sym (c .before .before .before .before .read-chain .ensures) ∙ c .before .before .at .given .1) in
+    c .finish .ensures ∙ sym (behind-read h (length d) (chainOf d) _ kept)
 
 -- src/decode.rt:60:1
 returns-5 : tie.Need-returns-5
-returns-5 c = ?
+returns-5 c = let d = now (c .before .before .before .before .before .before .before .before .before .before .before .args .datagram) in
+    let h = c .before .before .before .before .before .before .before .before .before .before .before .args .header in
+    let kept = chain-of d (c .before .before .before .before .before .before .before .before .before .before .before .pre) ∙ (sym (c .before .before .before .before .before .before .before .before .read-chain .ensures) ∙ c .before .before .before .before .before .before .sack .given .1) in
+    simp (behind-read h (length d) (chainOf d) _ kept, le-ltb _ _ (c .before .before .before .if1 .left), eq-eqb _ _ (c .before .if2 .left)) (c .finish2 .ensures)
 
 pub decode-chain-spec : {M : Type 1} → statement M
 decode-chain-spec =

@@ -34,14 +34,15 @@ read16-requires-3 c κs = search needs
 
 -- src/header.rt:88:1
 returns : tie.Need-returns
-returns c = simp
-    (c .before .before .before .before .before .read16 .ensures,
-    c .before .before .before .before .read32 .ensures,
-    c .before .before .before .read322 .ensures,
-    c .before .before .read323 .ensures,
-    c .before .read162 .ensures,
-    c .read163 .ensures,
-    header-fields)
+returns c = simp (
+  c .before .before .before .before .before .read16 .ensures,
+  c .before .before .before .before .read32 .ensures,
+  c .before .before .before .read322 .ensures,
+  c .before .before .read323 .ensures,
+  c .before .read162 .ensures,
+  c .read163 .ensures,
+  header-fields,
+)
 
 pub read-header-spec : {M : Type 1} → statement M
 read-header-spec =

@@ -41,13 +41,14 @@ add-result c = search needs
 -- src/number.rt:27:1
 returns : tie.Need-returns
 returns c = let a = c .before .before .before .before .before .args in
-    omega
-    (arith,
-    c .before .before .wide32 .ensures,
-    c .wide322 .ensures,
-    c .before .before .before .read16 .ensures,
-    c .before .read162 .ensures,
-    big-four (now (a .s)) (a .at) (c .before .before .before .before .before .pre))
+    omega (
+      arith,
+      c .before .before .wide32 .ensures,
+      c .wide322 .ensures,
+      c .before .before .before .read16 .ensures,
+      c .before .read162 .ensures,
+      big-four (now (a .s)) (a .at) (c .before .before .before .before .before .pre),
+    )
 
 pub read32-spec : {M : Type 1} → statement M
 read32-spec =

@@ -1,3 +1,16 @@
+-- `decode` meets its contract: the header's checks in their order, and behind a good header what `decode_chain` answers.
+use Prim.Native.Nat.{_/_}
+use mathlib.Core.Path.{_≡_, _∙_, sym, ap}
+use lib.ListN.{length, getD}
+use denote.Ref.{now}
+use Rattle.common.specs.Answer.{done, refused}
+use Rattle.packet.specs.Answers.{typeRead}
+use Rattle.packet.specs.Layout.{typeAnswer, headerWith}
+use Rattle.packet.specs.Decode.{behindHeader, chainOf}
+use Rattle.packet.specs.Laws.Layout.{type-unknown, type-known}
+use Rattle.packet.specs.Laws.Decode.{decode-short, decode-type, decode-version, decode-behind}
+use Rattle.packet.specs.declared.header.Header.{Header}
+use Rattle.packet.specs.declared.header.PacketType.{PacketType}
 use borrow.Author.Needs.{needs}
 use Rattle.packet.proofs.decode.Packet.decode.Statement.{statement}
 use Rattle.packet.proofs.decode.Packet.decode.Tie as tie
@@ -9,7 +22,7 @@ use Rattle.packet.proofs.header.read_header.Reads as read-header-reads
 
 -- src/decode.rt:43:13
 returns : tie.Need-returns
-returns c = ?
+returns c = sym (decode-short (now (c .before .before .args .datagram)) (c .if1 .taken))
 
 -- src/decode.rt:45:21
 shared-slice-read-first : tie.Need-shared-slice-read-first
@@ -37,15 +50,26 @@ decode-chain-requires c κs = search needs
 
 -- src/decode.rt:39:5
 returns-2 : tie.Need-returns-2
-returns-2 c = ?
+returns-2 c = let d = now (c .before .before .before .before .before .before .args .datagram) in
+    let unknown : refused 2 ≡ typeAnswer (getD d 0 0 / 16) = sym (ap typeRead (c .enum-told .given .1)) ∙ c .before .before .of-number .ensures in
+    sym (decode-type d (c .before .before .before .before .if1 .left) (type-unknown (getD d 0 0 / 16) unknown))
 
 -- src/decode.rt:39:5
 returns-3 : tie.Need-returns-3
-returns-3 c = ?
+returns-3 c = let d = now (c .before .before .before .before .before .before .before .before .before .before .args .datagram) in
+    let t = c .before .before .before .before .packet-type .given in
+    let known : done (t .0 .0) ≡ typeAnswer (getD d 0 0 / 16) = sym (ap typeRead (t .1)) ∙ c .before .before .before .before .before .before .of-number .ensures in
+    let kind = type-known (getD d 0 0 / 16) (t .0 .0) known in
+    c .decode-chain .ensures
+    ∙ (ap (λ (h : Header). behindHeader h (length d) (chainOf d)) (c .before .read-header .ensures ∙ ap (λ (k : PacketType). headerWith k d) (kind .1))
+    ∙ sym (decode-behind d (c .before .before .before .before .before .before .before .before .if1 .left) (kind .0) (c .before .before .if2 .taken)))
 
 -- src/decode.rt:39:5
 returns-4 : tie.Need-returns-4
-returns-4 c = ?
+returns-4 c = let d = now (c .before .before .before .before .before .before .before .before .args .datagram) in
+    let t = c .before .before .packet-type .given in
+    let known : done (t .0 .0) ≡ typeAnswer (getD d 0 0 / 16) = sym (ap typeRead (t .1)) ∙ c .before .before .before .before .of-number .ensures in
+    sym (decode-version d (c .before .before .before .before .before .before .if1 .left) (type-known (getD d 0 0 / 16) (t .0 .0) known .0) (c .if2 .left))
 
 pub decode-spec : {M : Type 1} → statement M
 decode-spec =

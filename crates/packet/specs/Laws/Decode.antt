@@ -1,0 +1,56 @@
+-- Laws of decoding: what follows from what is kept of the chain.
+use Prim.Native.Nat.{ℕ, _/_, _%_, _≤_, _<_}
+use mathlib.Core.Bool.{true, false}
+use lib.Dec.{ltb}
+use borrow.Author.Tests.{lt-ltb, le-ltb, eq-eqb, ne-eqb}
+use Rattle.packet.specs.Layout.{headerWith, typeOf}
+use lib.ListN.{length, getD}
+use native.Mathlib.Omega.{arith}
+use mathlib.Core.List.{List}
+use mathlib.Core.Path.{_≡_, _∙_, refl, ap}
+use Rattle.common.specs.Answer.{Answer, done, refused}
+use Rattle.packet.specs.Chain.{Chain, past, whole, Sacked, nowhere, inside, firstSack, none, sackRead, readOf, chainFrom}
+use Rattle.packet.specs.Decode.{sackAnswer, payloadAnswer, packetOf, behindHeader, chainOf, decodeOf}
+use Rattle.packet.specs.Laws.Layout.{extension-field, first-field}
+use Rattle.packet.specs.declared.decode.Packet.{Packet}
+use Rattle.packet.specs.declared.header.Header.{Header}
+use Rattle.packet.specs.declared.extension.Part.{Part}
+use Rattle.packet.specs.declared.extension.ChainRead.{ChainRead}
+use Rattle.packet.specs.declared.extension.ChainRead.the-variants.{Past, Plain, WithSack}
+
+-- The chain begins with the byte that names the first extension.
+pub chain-of : (d : List ℕ) → 20 ≤ length d → readOf (chainOf d) ≡ readOf (chainFrom d (record { number = getD d 1 0; at = 20 }))
+chain-of d h = ap (λ (n : ℕ). readOf (chainFrom d (record { number = n; at = 20 }))) (extension-field d h)
+
+module _ (h : Header) (size : ℕ) where
+  abbrev pub behindRead : ChainRead → Answer Packet
+  behindRead Past = refused 4
+  behindRead (Plain at) = packetOf h (done none) (payloadAnswer h size at)
+  behindRead (WithSack p at) = packetOf h (sackAnswer (inside p)) (payloadAnswer h size at)
+
+  pub behind-read : (k : Chain) (r : ChainRead) → readOf k ≡ r → behindHeader h size k ≡ behindRead r
+  behind-read past r e = ap behindRead e
+  behind-read (whole es at) r e = by-sack (firstSack es) ∙ ap behindRead e
+    where
+      by-sack : (s : Sacked) → packetOf h (sackAnswer s) (payloadAnswer h size at) ≡ behindRead (sackRead s at)
+      by-sack nowhere = refl
+      by-sack (inside p) = refl
+
+-- The header's checks, each by the bytes that it looks at.
+pub decode-short : (d : List ℕ) → length d < 20 → decodeOf d ≡ refused 1
+unfolding decodeOf
+decode-short d h = simp (lt-ltb _ _ h)
+
+module _ (d : List ℕ) (h : 20 ≤ length d) where
+  pub decode-type : ltb 4 (getD d 0 0 / 16) ≡ true → decodeOf d ≡ refused 2
+  unfolding decodeOf
+  decode-type t = simp (le-ltb _ _ h, first-field d h, t)
+
+  module _ (t : ltb 4 (getD d 0 0 / 16) ≡ false) where
+    pub decode-version : (getD d 0 0 % 16 ≡ 1 → ⊥) → decodeOf d ≡ refused 3
+    unfolding decodeOf
+    decode-version v = simp (le-ltb _ _ h, first-field d h, t, ne-eqb _ _ v)
+
+    pub decode-behind : getD d 0 0 % 16 ≡ 1 → decodeOf d ≡ behindHeader (headerWith (typeOf (getD d 0 0 / 16)) d) (length d) (chainOf d)
+    unfolding decodeOf
+    decode-behind v = simp (le-ltb _ _ h, first-field d h, t, eq-eqb _ _ v)
