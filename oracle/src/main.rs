@@ -1,15 +1,53 @@
 //! The Rust side of the comparison tests: asks utp-rs for its answers and writes them down as lists that the port's
 //! programs replay. Usage: oracle LIST FILE; see README.md for the lists.
 
+mod clock;
 mod codec;
+mod controller;
 mod departures;
 mod model;
+mod receiver;
 mod tools;
 
-/// The source, unchanged. Each file sits in a module of its crate name, with a `probe` inside it that may see what is private.
+/// The source, unchanged. Each file sits in a module of its name; what the driver adds to a module only looks at what is private.
 #[allow(dead_code)]
 mod packet {
     include!(concat!(env!("UTP_RS_SRC"), "/src/packet.rs"));
+}
+
+#[allow(dead_code)]
+mod seq {
+    include!(concat!(env!("UTP_RS_SRC"), "/src/seq.rs"));
+}
+
+mod recv {
+    include!(concat!(env!("UTP_RS_SRC"), "/src/recv.rs"));
+
+    impl<const N: usize> ReceiveBuffer<N> {
+        /// Ready bytes, waiting bytes, payloads in order.
+        pub fn inside(&self) -> (usize, usize, u16) {
+            (self.offset, self.pending.values().map(Vec::len).sum(), self.consumed)
+        }
+    }
+}
+
+/// With the one edit: see build.sh.
+#[allow(dead_code)]
+mod congestion {
+    include!(concat!(env!("ORACLE_BUILD"), "/congestion.rs"));
+
+    impl Controller {
+        /// Maximum, in flight, timeout, round trip, variance.
+        pub fn inside(&self) -> crate::controller::Numbers {
+            (
+                self.max_window_size_bytes.into(),
+                self.window_size_bytes.into(),
+                self.timeout.as_micros(),
+                self.rtt.as_micros() as i128,
+                self.rtt_variance_micros.into(),
+            )
+        }
+    }
 }
 
 fn main() {
@@ -19,8 +57,11 @@ fn main() {
     let done = std::panic::catch_unwind(|| match words[..] {
         ["decode", file] => tools::store(file, codec::decode_list()),
         ["encode", file] => tools::store(file, codec::encode_list()),
+        ["recv", file] => tools::store(file, receiver::list()),
+        ["congestion", file] => tools::store(file, controller::list()),
+        ["congestion-clock", file] => tools::store(file, controller::clock_list()),
         ["departures", file] => tools::store(file, departures::list()),
-        _ => panic!("usage: oracle decode|encode|departures FILE"),
+        _ => panic!("usage: oracle decode|encode|recv|congestion|congestion-clock|departures FILE"),
     });
     if let Err(reason) = done {
         let text = reason

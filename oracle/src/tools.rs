@@ -96,3 +96,8 @@ pub enum Source {
     /// The Rust gave something else earlier in this session; document 01's answer.
     After = 3,
 }
+
+/// Does the call panic? What it was given may be left half done, so give it a copy.
+pub fn panics(call: impl FnOnce()) -> bool {
+    std::panic::catch_unwind(std::panic::AssertUnwindSafe(call)).is_err()
+}
