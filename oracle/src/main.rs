@@ -8,6 +8,7 @@ mod departures;
 mod model;
 mod receiver;
 mod tools;
+mod tracker;
 
 /// The source, unchanged. Each file sits in a module of its name; what the driver adds to a module only looks at what is private.
 #[allow(dead_code)]
@@ -50,6 +51,17 @@ mod congestion {
     }
 }
 
+#[allow(dead_code)]
+mod sent {
+    include!(concat!(env!("UTP_RS_SRC"), "/src/sent.rs"));
+
+    impl SentPackets {
+        pub fn controller(&self) -> &congestion::Controller {
+            &self.congestion_ctrl
+        }
+    }
+}
+
 fn main() {
     std::panic::set_hook(Box::new(|_| {}));
     let arguments: Vec<String> = std::env::args().skip(1).collect();
@@ -60,8 +72,10 @@ fn main() {
         ["recv", file] => tools::store(file, receiver::list()),
         ["congestion", file] => tools::store(file, controller::list()),
         ["congestion-clock", file] => tools::store(file, controller::clock_list()),
+        ["sent", file] => tools::store(file, tracker::list()),
+        ["sent-long", file] => tools::store(file, tracker::long_list()),
         ["departures", file] => tools::store(file, departures::list()),
-        _ => panic!("usage: oracle decode|encode|recv|congestion|congestion-clock|departures FILE"),
+        _ => panic!("usage: oracle decode|encode|recv|congestion|congestion-clock|sent|sent-long|departures FILE"),
     });
     if let Err(reason) = done {
         let text = reason

@@ -60,7 +60,6 @@ impl List {
         self.bytes.extend(value.to_be_bytes());
     }
 
-    #[allow(dead_code)]
     pub fn u64(&mut self, value: u64) {
         self.bytes.extend(value.to_be_bytes());
     }
@@ -77,10 +76,10 @@ impl List {
 }
 
 pub fn store(file: &str, list: List) {
+    std::fs::write(file, &list.bytes).expect("the list's file can be written");
     for line in &list.said {
         println!("{line}");
     }
-    std::fs::write(file, &list.bytes).expect("the list's file can be written");
     println!("{} bytes", list.bytes.len());
 }
 
