@@ -411,6 +411,24 @@ fn more_than_kept(list: &mut List, counts: &mut Counts) {
     session.close(list);
 }
 
+/// More equal delays than are kept, of which only one is, then rising ones; then the clock past them one by one.
+fn more_equal_than_kept(list: &mut List, counts: &mut Counts) {
+    let settings = Settings { delay_window: 10_000, increase: 2_000, target: 1_000, ..plain_settings() };
+    let mut session = Session::new(settings);
+    for place in 0..1_040 {
+        let (delay, now) = if place < 1_030 { (50, place as u64) } else { (60 * (place as u64 - 1_029), 40 * place as u64 - 39_000) };
+        session.event(Event::Transmit { length: 100, now }, counts);
+        session.event(Event::Ack { packet: place, delay, now }, counts);
+    }
+    for place in 1_040..1_060 {
+        let now = 11_000 + 80 * (place as u64 - 1_040);
+        session.event(Event::Transmit { length: 100, now }, counts);
+        session.event(Event::Ack { packet: place, delay: 900, now }, counts);
+    }
+    assert!(session.rust.is_some());
+    session.close(list);
+}
+
 /// Settings at each end of each range, and just outside: answer 0 or 10.
 pub fn settings_at_the_ends() -> Vec<Settings> {
     let plain = plain_settings();
@@ -462,8 +480,9 @@ pub fn list() -> List {
         timeouts(&mut list, &mut counts, first_timeout, count);
     }
     more_than_kept(&mut list, &mut counts);
+    more_equal_than_kept(&mut list, &mut counts);
     to_the_top(&mut list, &mut counts);
-    sessions += 12 + 5 + 2;
+    sessions += 12 + 5 + 3;
     report(&mut list, "congestion", sessions, &counts);
     list
 }

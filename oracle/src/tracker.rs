@@ -267,15 +267,30 @@ fn odd_event(random: &mut Random, session: &Session, settings: &Settings, weathe
     let length = random.between(0, settings.largest_packet) as u32;
     let good = 4 * random.below(64) as usize;
     let good = if random.chance(1, 2) { good.min(16) } else { good };
-    match random.below(12) {
-        0 => {
-            let bad = random.pick(&[1, 2, 3, 5, 6, 7, 9, 250, 251, 253, 254, 255, 256, 257, 260, 512]);
-            Event::Ack { number: anywhere, sack: random.bytes(bad), delay, now }
+    let bad = random.pick(&[1, 2, 3, 5, 6, 7, 9, 250, 251, 253, 254, 255, 256, 257, 260, 512]);
+    // Some of them ahead of the time that goes on: a refusal must not move the clock.
+    let current = now;
+    let now = (now + random.pick(&[0, 0, 1, 5_000])).min(LAST_TIME);
+    match random.below(15) {
+        0 => Event::Ack { number: anywhere, sack: random.bytes(bad), delay, now },
+        // Several faults at once: which is named?
+        12 => {
+            let number = random.pick(&[anywhere, model.initial, model.number(session.sent() + 1)]);
+            let length = random.pick(&[bad, bad, good]);
+            let delay = random.pick(&[delay, delay, LAST_TIME + 1]);
+            let now = random.pick(&[now, now, LAST_TIME + 1, current.wrapping_sub(1)]);
+            Event::Ack { number, sack: random.bytes(length), delay, now }
         }
-        1 => Event::Ack { number: anywhere, sack: vec![], delay, now: now.wrapping_sub(random.between(1, 1_000)) },
+        13 => {
+            let number = random.pick(&[anywhere, model.initial, session.next(), model.number(session.sent() + 2)]);
+            let length = random.pick(&[length, u32::MAX]);
+            let now = random.pick(&[now, now, LAST_TIME + 1, u64::MAX, current.wrapping_sub(1)]);
+            Event::Transmit { number, kind, length, now }
+        }
+        1 => Event::Ack { number: anywhere, sack: vec![], delay, now: current.wrapping_sub(random.between(1, 1_000)) },
         2 => Event::Ack { number: anywhere, sack: vec![], delay: LAST_TIME + random.pick(&[0, 1, 2]), now },
         3 => Event::Transmit { number: session.next(), kind, length, now: LAST_TIME + 1 },
-        4 => Event::Transmit { number: session.next(), kind, length, now: now.wrapping_sub(1) },
+        4 => Event::Transmit { number: session.next(), kind, length, now: current.wrapping_sub(1) },
         5 => Event::Transmit { number: anywhere, kind, length, now },
         6 => Event::Transmit { number: random.pick(&[model.initial, model.number(session.sent() + 2)]), kind, length, now },
         7 => {
@@ -405,6 +420,13 @@ fn marked_cases(counts: &mut Counts) -> Vec<Session> {
     let mut over = Vec::from([transmit(1, 2_000, 0), ack(1, &[], 5), transmit(2, 5_000, 6), Event::Timeout, transmit(3, 1, 7)]);
     over.extend([transmit(3, 0, 7), transmit(3, 0, 7), transmit(4, 0, 7), ack(4, &[], 8)]);
     all.push(given_session(0, settings, &over, counts));
+    // The last time and the longest delay; a refusal leaves the clock, a repeat moves it, a timeout does not.
+    let long_ack = |delay: u64, now: u64| Event::Ack { number: 1, sack: vec![], delay, now };
+    let mut ends = Vec::from([transmit(1, 10, 5), transmit(3, 10, LAST_TIME), long_ack(LAST_TIME + 1, 9), long_ack(LAST_TIME, 8)]);
+    ends.extend([transmit(1, 10, 20), transmit(2, 10, 19), long_ack(0, 30), transmit(2, 10, 29), Event::Timeout]);
+    ends.extend([transmit(2, 10, 30), transmit(2, 10, LAST_TIME + 1), ack(2, &[], LAST_TIME), transmit(3, 10, LAST_TIME)]);
+    ends.extend([transmit(4, 10, LAST_TIME - 1), ack(3, &[], LAST_TIME + 1), ack(3, &[], LAST_TIME)]);
+    all.push(given_session(0, settings, &ends, counts));
     all
 }
 
@@ -449,6 +471,49 @@ fn full_places(initial: u16, counts: &mut Counts) -> Session {
     session
 }
 
+/// At the edge of the 512 places for long: as many sent as are freed, and at times more.
+fn busy_places(initial: u16, random: &mut Random, counts: &mut Counts) -> Session {
+    let settings = Settings { largest_packet: 65_535, ..plain_settings() };
+    let mut session = Session::new(initial, settings);
+    for _ in 0..512 {
+        session.event(&transmit(session.next(), random.between(0, 9) as u32, 0), counts);
+    }
+    for now in 1..120 {
+        for _ in 0..random.between(1, 9) {
+            session.event(&transmit(session.next(), random.between(0, 9) as u32, now), counts);
+        }
+        // Near the first unacknowledged packet, with a hole or two behind it: a hole holds every later place.
+        let far = (session.model.run() + random.pick(&[0, 1, 1, 2, 3])).max(1);
+        let sack = if random.chance(1, 2) { vec![random.next() as u8, 0, 0, 0] } else { vec![] };
+        session.event(&ack(session.model.number(far), &sack, now), counts);
+    }
+    session
+}
+
+/// All 512 places held and all but a few packets lost at once, across the end of the numbers; then heard of one by one.
+fn many_lost(initial: u16, counts: &mut Counts) -> Session {
+    let settings = Settings { largest_packet: 65_535, increase: 1 << 20, ..plain_settings() };
+    let mut session = Session::new(initial, settings);
+    for offset in 1..=512 {
+        session.event(&transmit(session.model.number(offset), 100, offset as u64), counts);
+    }
+    let number = |offset: u16| initial.wrapping_add(offset);
+    let last_three = [vec![0; 63], vec![0x38]].concat();
+    session.event(&ack(number(1), &last_three, 600), counts);
+    for (event, lost) in [
+        (transmit(number(2), 100, 601), 508),
+        (ack(number(1), &last_three, 602), 508),
+        (ack(number(2), &[1, 0, 0, 0], 603), 506),
+        (Event::Timeout, 506),
+        (transmit(number(513), 1, 604), 506),
+        (ack(number(512), &[], 605), 0),
+    ] {
+        session.event(&event, counts);
+        assert_eq!(session.model.lost_list().len(), lost);
+    }
+    session
+}
+
 /// A SACK of every length that is taken, 0 and 4 to 252, over many packets, some of them lost for long.
 fn every_sack_length(initial: u16, random: &mut Random, counts: &mut Counts) -> Session {
     let settings = Settings { largest_packet: 65_535, increase: 65_535, ..plain_settings() };
@@ -483,7 +548,9 @@ pub fn list() -> List {
     for initial in [0, 65_300] {
         close(full_places(initial, &mut counts), &mut list);
         close(every_sack_length(initial, &mut random, &mut counts), &mut list);
+        close(busy_places(initial, &mut random, &mut counts), &mut list);
     }
+    close(many_lost(65_200, &mut counts), &mut list);
     let initials = [0, 1, 100, 32_767, 65_400, 65_480, 65_510, 65_530, 65_533, 65_534, 65_535];
     for round in 0..330u64 {
         let weather = Weather {
