@@ -187,7 +187,8 @@ fn chains(list: &mut Datagrams, random: &mut Random) {
     ];
     for shape in shapes {
         for (first, payload) in [(STATE, &b"tail"[..]), (DATA, b"t")] {
-            let chain: Vec<(u8, Vec<u8>)> = shape.iter().map(|(number, length)| (*number, random.bytes(*length))).collect();
+            let chain: Vec<(u8, Vec<u8>)> =
+                shape.iter().map(|(number, length)| (*number, random.bytes(*length))).collect();
             list.add_cuts(&datagram(first, &chain, payload), 18);
         }
     }

@@ -68,11 +68,20 @@ pub fn random_settings(random: &mut Random, calm: bool) -> Settings {
 
 #[derive(Copy, Clone, Debug)]
 enum Event {
-    Transmit { length: u32, now: u64 },
+    Transmit {
+        length: u32,
+        now: u64,
+    },
     /// The packet by its place among those sent.
-    Ack { packet: usize, delay: u64, now: u64 },
+    Ack {
+        packet: usize,
+        delay: u64,
+        now: u64,
+    },
     Timeout,
-    Loss { packet: usize },
+    Loss {
+        packet: usize,
+    },
 }
 
 #[derive(Clone, Debug)]
@@ -282,7 +291,17 @@ fn marked_cases(list: &mut List, counts: &mut Counts) -> usize {
 pub fn pick_delay(random: &mut Random, settings: &Settings, calm: bool, level: u64) -> u64 {
     if calm {
         let spread = random.between(0, 2 * settings.target);
-        return level + random.pick(&[0, 0, settings.target, settings.target - 1, spread, spread, spread / 2, 2 * settings.target]);
+        return level
+            + random.pick(&[
+                0,
+                0,
+                settings.target,
+                settings.target - 1,
+                spread,
+                spread,
+                spread / 2,
+                2 * settings.target,
+            ]);
     }
     match random.below(12) {
         0 => 0,
@@ -351,7 +370,8 @@ fn equal_delays(random: &mut Random, list: &mut List, counts: &mut Counts) {
     for _ in 0..80 {
         session.event(Event::Transmit { length: random.between(1, 40) as u32, now }, counts);
         if random.chance(2, 3) {
-            now += random.pick(&[0, 1, 1, 2, settings.delay_window / 2, settings.delay_window - 1, settings.delay_window]);
+            now +=
+                random.pick(&[0, 1, 1, 2, settings.delay_window / 2, settings.delay_window - 1, settings.delay_window]);
             let packet = random.pick(&session.outstanding());
             let delay = random.pick(&[40_000, 40_000, 50_000, 60_000, 60_000, 150_000]);
             session.event(Event::Ack { packet, delay, now }, counts);
@@ -416,7 +436,8 @@ fn more_equal_than_kept(list: &mut List, counts: &mut Counts) {
     let settings = Settings { delay_window: 10_000, increase: 2_000, target: 1_000, ..plain_settings() };
     let mut session = Session::new(settings);
     for place in 0..1_040 {
-        let (delay, now) = if place < 1_030 { (50, place as u64) } else { (60 * (place as u64 - 1_029), 40 * place as u64 - 39_000) };
+        let (delay, now) =
+            if place < 1_030 { (50, place as u64) } else { (60 * (place as u64 - 1_029), 40 * place as u64 - 39_000) };
         session.event(Event::Transmit { length: 100, now }, counts);
         session.event(Event::Ack { packet: place, delay, now }, counts);
     }
@@ -450,7 +471,8 @@ pub fn settings_at_the_ends() -> Vec<Settings> {
     let (low, one) = ((1.0f64 / 1024.0).to_bits(), 1.0f64.to_bits());
     let sign = 1u64 << 63;
     let infinity = f64::INFINITY.to_bits();
-    let odd = [0, 1, sign, low - 1, low, low + 1, one - 1, one, one + 1, one | sign, low | sign, infinity, infinity | sign];
+    let odd =
+        [0, 1, sign, low - 1, low, low + 1, one - 1, one, one + 1, one | sign, low | sign, infinity, infinity | sign];
     for bits in odd.into_iter().chain([infinity + 1, f64::NAN.to_bits(), f64::NAN.to_bits() | sign, u64::MAX]) {
         all.push(Settings { gain: f64::from_bits(bits), ..plain });
     }

@@ -67,12 +67,7 @@ fn codec(text: &mut String) {
         text,
         "SACK length cut to eight bits, and read back as another packet",
         "encode State, all numbers 0, SACK of 260 zero bytes, no payload",
-        format!(
-            "{} (read again: SACK of {} bytes, payload of {})",
-            head_and_length(&cut),
-            read.sack.1,
-            read.payload.1
-        ),
+        format!("{} (read again: SACK of {} bytes, payload of {})", head_and_length(&cut), read.sack.1, read.payload.1),
         "8, nothing written",
     );
     let empty = rust_encode(&zero_parts(0), &[], b"").expect("written");
@@ -105,7 +100,12 @@ fn receiver(text: &mut String) {
         text,
         "SACK in numeric order (R1)",
         "ReceiveBuffer::<2>::new(65533); write(&[1], 65535); write(&[2], 0); selective_ack()",
-        format!("{} bytes, the first four {}, the last four {}", sack.len(), hex(&sack[..4]), hex(&sack[sack.len() - 4..])),
+        format!(
+            "{} bytes, the first four {}, the last four {}",
+            sack.len(),
+            hex(&sack[..4]),
+            hex(&sack[sack.len() - 4..])
+        ),
         "4 bytes: 03 00 00 00",
     );
     let mut buffer = ReceiveBuffer::<1>::new(0);
@@ -127,7 +127,13 @@ fn receiver(text: &mut String) {
         "15; 15",
     );
     let panicked = panics(|| ReceiveBuffer::<1>::new(0).write(&[1, 2], 1));
-    line(text, "no room", "ReceiveBuffer::<1>::new(0); write(&[1, 2], 1)", if panicked { "panics" } else { "done" }, "17");
+    line(
+        text,
+        "no room",
+        "ReceiveBuffer::<1>::new(0); write(&[1, 2], 1)",
+        if panicked { "panics" } else { "done" },
+        "17",
+    );
     let made = !panics(|| drop((ReceiveBuffer::<0>::new(0), ReceiveBuffer::<65_537>::new(0))));
     line(
         text,
@@ -267,7 +273,13 @@ fn tracker(text: &mut String) {
         "12 each",
     );
     let answer = done(panics(|| send(&mut sent_packets(0, small), 1, 3, 0)));
-    line(text, "longer than the free window", "largest packet 1; SentPackets::new(0, ..); on_transmit of 1, 3 bytes", answer, "13");
+    line(
+        text,
+        "longer than the free window",
+        "largest packet 1; SentPackets::new(0, ..); on_transmit of 1, 3 bytes",
+        answer,
+        "13",
+    );
     let mut rust = sent_packets(0, small);
     for number in 1..=513 {
         send(&mut rust, number, 0, 0);
@@ -302,7 +314,13 @@ fn tracker(text: &mut String) {
     send(&mut rust, 1, 0, 0);
     let sack = SelectiveAck::decode(&[0; 256]).expect("taken");
     let answer = done(panics(|| hear(&mut rust, 1, Some(sack), 0, 0)));
-    line(text, "SACK above 252 bytes", "on_transmit of 1, 0 bytes; on_ack of 1 with a SACK of 256 zero bytes", answer, "8");
+    line(
+        text,
+        "SACK above 252 bytes",
+        "on_transmit of 1, 0 bytes; on_ack of 1 with a SACK of 256 zero bytes",
+        answer,
+        "8",
+    );
     let mut rust = sent_packets(0, small);
     send(&mut rust, 1, 0, 1);
     let back = done(panics(|| hear(&mut rust, 1, None, 0, 0)));

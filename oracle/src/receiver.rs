@@ -67,7 +67,8 @@ impl<const N: usize> Pair<N> {
         let expected = self.model.sack();
         let rust = self.rust.selective_ack().map_or(vec![], |sack| sack.encode());
         let next = self.model.ack_number().wrapping_add(1);
-        let numbers: Vec<u16> = self.model.waiting.keys().map(|offset| self.model.initial.wrapping_add(*offset as u16)).collect();
+        let numbers: Vec<u16> =
+            self.model.waiting.keys().map(|offset| self.model.initial.wrapping_add(*offset as u16)).collect();
         let straddles = numbers.iter().any(|number| *number < next) && numbers.iter().any(|number| *number >= next);
         if straddles {
             assert_ne!(expected, rust, "numeric order, and yet the same SACK");
@@ -185,9 +186,8 @@ fn pick_offset(random: &mut Random, order: Order, c: u32) -> u32 {
                 random.between(1, width) as u32
             }
         }
-        Order::Edges => random.pick(&[
-            1, 1, 2, 3, 9, 10, 17, 32, 33, 34, 35, 65, 66, 97, 98, 255, 256, 257, 258, 300, 30_000, 40_000,
-        ]),
+        Order::Edges => random
+            .pick(&[1, 1, 2, 3, 9, 10, 17, 32, 33, 34, 35, 65, 66, 97, 98, 255, 256, 257, 258, 300, 30_000, 40_000]),
     };
     match random.below(60) {
         0 => 0,
@@ -276,8 +276,30 @@ fn chosen_sessions(list: &mut List, counts: &mut Counts, random: &mut Random) ->
     // Room: filled exactly, over by one, freed by a read and used again, with something waiting.
     let of = |number: u16, count: usize| Write(number, vec![number as u8; count]);
     events = vec![
-        of(1, 4), of(2, 1), of(2, 0), Ask(2), Read(1), of(3, 2), of(3, 1), Ack(4), Read(9), Ask(3), of(5, 3), of(4, 2), of(4, 1),
-        Ack(4), Read(2), Read(2), Read(2), Ask(5), of(7, 0), of(8, 0), Ack(4), of(6, 0), Ack(4), Ask(8),
+        of(1, 4),
+        of(2, 1),
+        of(2, 0),
+        Ask(2),
+        Read(1),
+        of(3, 2),
+        of(3, 1),
+        Ack(4),
+        Read(9),
+        Ask(3),
+        of(5, 3),
+        of(4, 2),
+        of(4, 1),
+        Ack(4),
+        Read(2),
+        Read(2),
+        Read(2),
+        Ask(5),
+        of(7, 0),
+        of(8, 0),
+        Ack(4),
+        of(6, 0),
+        Ack(4),
+        Ask(8),
     ];
     given_session::<4>(list, counts, 0, &events);
     // A buffer of one byte: a byte that waits holds up the one before it, which has no room.
@@ -288,7 +310,17 @@ fn chosen_sessions(list: &mut List, counts: &mut Counts, random: &mut Random) ->
     for number in [2, 3, 1] {
         events.push(Write(number, random.bytes(20_000)));
     }
-    events.extend([of(4, 5_537), of(4, 5_536), Ask(4), of(5, 1), Ack(32), Read(30_000), of(6, 30_000), of(5, 1), of(5, 0)]);
+    events.extend([
+        of(4, 5_537),
+        of(4, 5_536),
+        Ask(4),
+        of(5, 1),
+        Ack(32),
+        Read(30_000),
+        of(6, 30_000),
+        of(5, 1),
+        of(5, 0),
+    ]);
     events.extend([Read(65_536), Ask(6), Read(1)]);
     given_session::<65_536>(list, counts, 0, &events);
     // To the end of the numbers that a receiver takes.
@@ -296,8 +328,26 @@ fn chosen_sessions(list: &mut List, counts: &mut Counts, random: &mut Random) ->
     events = vec![Run(59_740), Ask(at(59_740))];
     events.extend([59_742, 59_996, 59_997, 60_000, 60_001, 65_535, 0, 1].map(|offset| byte(at(offset))));
     events.extend([Ack(32), Run(1), Ack(32), Ask(at(60_000))]);
-    events.extend([Run(100), byte(at(60_000)), byte(at(60_001)), Ack(32), byte(at(59_843)), Ack(32), Run(152), Ack(32)]);
-    events.extend([Ask(at(59_995)), Run(1), Ask(at(59_998)), Run(2), Ask(at(60_000)), Ack(32), byte(at(60_001)), byte(at(60_000))]);
+    events.extend([
+        Run(100),
+        byte(at(60_000)),
+        byte(at(60_001)),
+        Ack(32),
+        byte(at(59_843)),
+        Ack(32),
+        Run(152),
+        Ack(32),
+    ]);
+    events.extend([
+        Ask(at(59_995)),
+        Run(1),
+        Ask(at(59_998)),
+        Run(2),
+        Ask(at(60_000)),
+        Ack(32),
+        byte(at(60_001)),
+        byte(at(60_000)),
+    ]);
     events.extend([Read(100), byte(at(60_257)), byte(at(65_535)), Ask(at(60_001))]);
     given_session::<64>(list, counts, 40_000, &events);
     // Lengths that are refused.
@@ -313,8 +363,14 @@ pub fn list() -> List {
     let mut counts = Counts::new();
     let mut sessions = chosen_sessions(&mut list, &mut counts, &mut random);
     let initials = [0, 1, 100, 32_767, 65_300, 65_500, 65_533, 65_534, 65_535, 5_535, 5_536];
-    let orders =
-        [Order::InOrder, Order::Shuffled(3), Order::Shuffled(12), Order::Shuffled(40), Order::Shuffled(256), Order::Edges];
+    let orders = [
+        Order::InOrder,
+        Order::Shuffled(3),
+        Order::Shuffled(12),
+        Order::Shuffled(40),
+        Order::Shuffled(256),
+        Order::Edges,
+    ];
     for round in 0..42 {
         let order = orders[round % orders.len()];
         let events = 60 + 20 * (round % 5);

@@ -3,8 +3,8 @@
 use crate::clock;
 use crate::codec::sack_number;
 use crate::controller::{
-    model_numbers, pick_delay, pick_step, plain_settings, random_settings, report, rust_controller, settings_at_the_ends,
-    write_settings, Counts,
+    model_numbers, pick_delay, pick_step, plain_settings, random_settings, report, rust_controller,
+    settings_at_the_ends, write_settings, Counts,
 };
 use crate::model::controller::{Departures, Settings, LAST_TIME};
 use crate::model::tracker::Tracker;
@@ -16,11 +16,27 @@ use std::time::Duration;
 
 #[derive(Clone, Debug)]
 enum Event {
-    Transmit { number: u16, kind: u8, length: u32, now: u64 },
-    Ack { number: u16, sack: Vec<u8>, delay: u64, now: u64 },
+    Transmit {
+        number: u16,
+        kind: u8,
+        length: u32,
+        now: u64,
+    },
+    Ack {
+        number: u16,
+        sack: Vec<u8>,
+        delay: u64,
+        now: u64,
+    },
     Timeout,
     /// So many first transmits in a row from `number` on, alike but for the number; only in the long session.
-    Run { number: u16, kind: u8, length: u32, now: u64, count: u64 },
+    Run {
+        number: u16,
+        kind: u8,
+        length: u32,
+        now: u64,
+        count: u64,
+    },
 }
 
 struct Session {
@@ -63,8 +79,11 @@ impl Session {
     fn same(&self, rust: &SentPackets) -> bool {
         let model = &self.model;
         let tagged = |data: Option<Vec<u8>>| u32::from_be_bytes(data.expect("a tag").try_into().expect("four bytes"));
-        let lost: Vec<(u16, u8, u32)> =
-            rust.lost_packets().into_iter().map(|(number, kind, data)| (number, u8::from(kind), tagged(data))).collect();
+        let lost: Vec<(u16, u8, u32)> = rust
+            .lost_packets()
+            .into_iter()
+            .map(|(number, kind, data)| (number, u8::from(kind), tagged(data)))
+            .collect();
         rust.controller().inside() == model_numbers(&model.controller)
             && lost == model.lost_list()
             && rust.has_lost_packets() != lost.is_empty()
@@ -147,7 +166,10 @@ impl Session {
                 self.sack_lengths.insert(sack.len());
                 if let Some(rust) = &mut self.rust {
                     let mut answer = Ok(());
-                    assert!(!panics(|| answer = rust_ack(rust, number, sack, delay, now)), "the Rust panicked on ack of {number}");
+                    assert!(
+                        !panics(|| answer = rust_ack(rust, number, sack, delay, now)),
+                        "the Rust panicked on ack of {number}"
+                    );
                     assert_eq!(answer, Ok(()));
                 }
                 (0, self.agree())
@@ -240,7 +262,8 @@ impl FarEnd {
     /// The offset acknowledged and the SACK, as document 01's receiver makes them, at most 252 bytes.
     fn acknowledgement(&self) -> (usize, Vec<u8>) {
         let c = (1..).take_while(|offset| self.arrived.contains(offset)).count();
-        let bits: Vec<usize> = self.arrived.range(c + 2..).map(|offset| offset - c - 2).filter(|bit| *bit < 2016).collect();
+        let bits: Vec<usize> =
+            self.arrived.range(c + 2..).map(|offset| offset - c - 2).filter(|bit| *bit < 2016).collect();
         let mut sack = vec![0u8; bits.last().map_or(0, |last| last / 32 * 4 + 4)];
         for bit in bits {
             sack[bit / 8] |= 1 << (bit % 8);
@@ -292,16 +315,30 @@ fn odd_event(random: &mut Random, session: &Session, settings: &Settings, weathe
         3 => Event::Transmit { number: session.next(), kind, length, now: LAST_TIME + 1 },
         4 => Event::Transmit { number: session.next(), kind, length, now: current.wrapping_sub(1) },
         5 => Event::Transmit { number: anywhere, kind, length, now },
-        6 => Event::Transmit { number: random.pick(&[model.initial, model.number(session.sent() + 2)]), kind, length, now },
+        6 => Event::Transmit {
+            number: random.pick(&[model.initial, model.number(session.sent() + 2)]),
+            kind,
+            length,
+            now,
+        },
         7 => {
             let free = model.controller.free_window() as u32;
-            Event::Transmit { number: session.next(), kind, length: free.saturating_add(random.between(0, 2) as u32), now }
+            Event::Transmit {
+                number: session.next(),
+                kind,
+                length: free.saturating_add(random.between(0, 2) as u32),
+                now,
+            }
         }
         8 => Event::Ack { number: random.next() as u16, sack: random.bytes(good), delay, now },
         9 => Event::Ack { number: anywhere, sack: vec![0; good], delay, now },
         _ => {
             let sparse = random.pick(&[1, 2, 3]);
-            let sack = random.bytes(good).into_iter().map(|byte| if sparse == 1 { byte } else { byte & random.next() as u8 }).collect();
+            let sack = random
+                .bytes(good)
+                .into_iter()
+                .map(|byte| if sparse == 1 { byte } else { byte & random.next() as u8 })
+                .collect();
             Event::Ack { number: anywhere, sack, delay, now }
         }
     }
@@ -346,13 +383,18 @@ fn random_session(random: &mut Random, initial: u16, weather: Weather, events: u
             48..=85 => {
                 for _ in 0..random.between(1, 3) {
                     if !far.under_way.is_empty() {
-                        let place = if random.chance(2, 3) { 0 } else { random.below(far.under_way.len() as u64) as usize };
+                        let place =
+                            if random.chance(2, 3) { 0 } else { random.below(far.under_way.len() as u64) as usize };
                         far.arrived.insert(far.under_way.remove(place));
                     }
                 }
                 let fresh = far.acknowledgement();
                 far.heard.push(fresh.clone());
-                let (offset, sack) = if random.chance(1, 12) { far.heard[random.below(far.heard.len() as u64) as usize].clone() } else { fresh };
+                let (offset, sack) = if random.chance(1, 12) {
+                    far.heard[random.below(far.heard.len() as u64) as usize].clone()
+                } else {
+                    fresh
+                };
                 if (offset > 0 || random.chance(1, 4)) && !random.chance(1, 10) {
                     let number = session.model.number(offset);
                     let delay = pick_delay(random, &settings, weather.calm, level);
@@ -417,14 +459,21 @@ fn marked_cases(counts: &mut Counts) -> Vec<Session> {
     assert_eq!((whole.model.controller.maximum, whole.model.controller.timeout), (5_000, 500_000));
     all.push(whole);
     // In flight above the maximum after a timeout: a packet of no bytes is taken, one of one byte is not.
-    let mut over = Vec::from([transmit(1, 2_000, 0), ack(1, &[], 5), transmit(2, 5_000, 6), Event::Timeout, transmit(3, 1, 7)]);
+    let mut over =
+        Vec::from([transmit(1, 2_000, 0), ack(1, &[], 5), transmit(2, 5_000, 6), Event::Timeout, transmit(3, 1, 7)]);
     over.extend([transmit(3, 0, 7), transmit(3, 0, 7), transmit(4, 0, 7), ack(4, &[], 8)]);
     all.push(given_session(0, settings, &over, counts));
     // The last time and the longest delay; a refusal leaves the clock, a repeat moves it, a timeout does not.
     let long_ack = |delay: u64, now: u64| Event::Ack { number: 1, sack: vec![], delay, now };
-    let mut ends = Vec::from([transmit(1, 10, 5), transmit(3, 10, LAST_TIME), long_ack(LAST_TIME + 1, 9), long_ack(LAST_TIME, 8)]);
+    let mut ends =
+        Vec::from([transmit(1, 10, 5), transmit(3, 10, LAST_TIME), long_ack(LAST_TIME + 1, 9), long_ack(LAST_TIME, 8)]);
     ends.extend([transmit(1, 10, 20), transmit(2, 10, 19), long_ack(0, 30), transmit(2, 10, 29), Event::Timeout]);
-    ends.extend([transmit(2, 10, 30), transmit(2, 10, LAST_TIME + 1), ack(2, &[], LAST_TIME), transmit(3, 10, LAST_TIME)]);
+    ends.extend([
+        transmit(2, 10, 30),
+        transmit(2, 10, LAST_TIME + 1),
+        ack(2, &[], LAST_TIME),
+        transmit(3, 10, LAST_TIME),
+    ]);
     ends.extend([transmit(4, 10, LAST_TIME - 1), ack(3, &[], LAST_TIME + 1), ack(3, &[], LAST_TIME)]);
     all.push(given_session(0, settings, &ends, counts));
     all
@@ -478,7 +527,7 @@ fn busy_places(initial: u16, random: &mut Random, counts: &mut Counts) -> Sessio
     for _ in 0..512 {
         session.event(&transmit(session.next(), random.between(0, 9) as u32, 0), counts);
     }
-    for now in 1..120 {
+    for now in 1..75 {
         for _ in 0..random.between(1, 9) {
             session.event(&transmit(session.next(), random.between(0, 9) as u32, now), counts);
         }
@@ -525,7 +574,8 @@ fn every_sack_length(initial: u16, random: &mut Random, counts: &mut Counts) -> 
             session.event(&transmit(session.next(), random.between(0, 40) as u32, now), counts);
         }
         // Few holes, so that the lost list stays short; the ack moves on by three.
-        let sack: Vec<u8> = (0..4 * step).map(|_| if random.chance(1, 6) { random.next() as u8 } else { 0xFF }).collect();
+        let sack: Vec<u8> =
+            (0..4 * step).map(|_| if random.chance(1, 6) { random.next() as u8 } else { 0xFF }).collect();
         let number = session.model.number(1 + 3 * step);
         session.event(&Event::Ack { number, sack, delay: random.between(1_000, 190_000), now }, counts);
     }
@@ -537,8 +587,10 @@ pub fn list() -> List {
     let mut list = List::default();
     let mut counts = Counts::new();
     let mut lengths = BTreeSet::new();
-    let mut sessions = 0;
+    let (mut sessions, mut departed) = (0, 0);
     let mut close = |session: Session, list: &mut List| {
+        assert!(session.events <= 1_000);
+        departed += usize::from(session.rust.is_none());
         session.close(list, &mut lengths);
         sessions += 1;
     };
@@ -553,11 +605,8 @@ pub fn list() -> List {
     close(many_lost(65_200, &mut counts), &mut list);
     let initials = [0, 1, 100, 32_767, 65_400, 65_480, 65_510, 65_530, 65_533, 65_534, 65_535];
     for round in 0..330u64 {
-        let weather = Weather {
-            calm: round % 4 != 3,
-            loss: random.pick(&[0, 2, 8, 20, 40]),
-            odd: random.pick(&[0, 3, 10, 30]),
-        };
+        let weather =
+            Weather { calm: round % 4 != 3, loss: random.pick(&[0, 2, 8, 20, 40]), odd: random.pick(&[0, 3, 10, 30]) };
         let initial = if round % 5 == 0 { random.next() as u16 } else { random.pick(&initials) };
         let events = 60 + 10 * (round % 8) as u32 + if round % 33 == 0 { 300 } else { 0 };
         close(random_session(&mut random, initial, weather, events, &mut counts), &mut list);
@@ -570,6 +619,7 @@ pub fn list() -> List {
     let ends = settings_at_the_ends().len();
     assert_eq!(lengths, (0..=252).step_by(4).collect::<BTreeSet<usize>>(), "every SACK length");
     list.say(format!("sent: and {ends} sessions of no events, for answers 0 and 10 to settings"));
+    list.say(format!("sent: {departed} sessions depart"));
     report(&mut list, "sent", sessions, &counts);
     list
 }
@@ -599,7 +649,8 @@ pub fn long_list() -> List {
         }
         // The ack reaches a little way into what is under way, or all of it; the SACK has a hole here and there.
         let (run, sent) = (session.model.run(), session.sent());
-        let reach = if random.chance(1, 3) { sent } else { random.between((run + 1).min(sent) as u64, sent as u64) as usize };
+        let reach =
+            if random.chance(1, 3) { sent } else { random.between((run + 1).min(sent) as u64, sent as u64) as usize };
         let holes = random.pick(&[0, 0, 0, 1]);
         let far = (sent - reach) / 32 * 4 + 4;
         let sack: Vec<u8> = (0..far.min(252) * 8)

@@ -126,10 +126,8 @@ impl Controller {
         if !(0..=LARGEST_MAXIMUM).contains(&adjusted) {
             self.departures.outside_u32 = true;
         }
-        self.maximum = adjusted
-            .max(self.minimum())
-            .min(self.maximum + i128::from(self.settings.increase))
-            .min(LARGEST_MAXIMUM);
+        self.maximum =
+            adjusted.max(self.minimum()).min(self.maximum + i128::from(self.settings.increase)).min(LARGEST_MAXIMUM);
         self.in_flight -= i128::from(length);
         if let Some(sent_at) = sent_once_at {
             let p = i128::from(now) - i128::from(sent_at);

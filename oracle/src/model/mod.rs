@@ -3,6 +3,6 @@
 //! Rust panics or departs, the expected answer is the one worked out here.
 
 pub mod codec;
-pub mod receiver;
 pub mod controller;
+pub mod receiver;
 pub mod tracker;
