@@ -16,9 +16,15 @@ plusOf s n = record { 0 = (s .0 + n) % 2 ^ 16 }
 abbrev pub offsetOf : SeqNum → SeqNum → Offset
 offsetOf s initial = record { 0 = (s .0 + (2 ^ 16 - initial .0)) % 2 ^ 16 }
 
+-- The numbers from start up to end, both among them, of which none was handed out yet.
+abbrev pub rangeOf : SeqNum → SeqNum → CircularRangeInclusive
+rangeOf start end = record { start = start; end = end; exhausted = false }
+
+-- A number is among them if it lies no further past the start than the end does.
 abbrev pub containsOf : SeqNum → SeqNum → SeqNum → Bool
 containsOf start end item = leb (offsetOf item start .0) (offsetOf end start .0)
 
+-- A step of the walk upward: the start, and then the rest, until the end was handed out.
 abbrev pub nextOf : CircularRangeInclusive → Step
 nextOf r =
     cond (r .exhausted)
