@@ -81,5 +81,5 @@ encode-promise : Promise {W = Encoded × List ℕ} encode.Pre encode.Post (λ κ
 encode-promise =
     record {
       asks-nothing = λ κs a. tt;
-      one-outcome = λ κs a r r′ s s′ p p′ i. (encoded-one-to-one r r′ (p .0 ∙ sym (p′ .0)) i, (p .1 ∙ sym (p′ .1)) i)
+      one-outcome = λ κs a r r′ s s′ p p′ i. (encoded-one-to-one r r′ (p .0 ∙ sym (p′ .0)) i, (p .1 ∙ sym (p′ .1)) i);
     }

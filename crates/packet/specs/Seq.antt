@@ -1,6 +1,7 @@
 -- Sequence numbers and offsets (document 01, "Sent packets" and "Receiving"). Definitions only.
-use Prim.Native.Nat.{ℕ, _+_, _-_, _%_, _^_}
+use Prim.Native.Nat.{ℕ, zero, suc, _+_, _-_, _%_, _^_}
 use mathlib.Core.Bool.{Bool, true, false, cond}
+use mathlib.Core.List.{List, [], _∷_}
 use lib.Dec.{leb, eqb}
 use Rattle.packet.specs.declared.seq.SeqNum.{SeqNum}
 use Rattle.packet.specs.declared.seq.Offset.{Offset}
@@ -32,3 +33,12 @@ nextOf r =
     (cond (eqb (r .start .0) (r .end .0))
     (Item (r .end) (record { start = r .start; end = r .end; exhausted = true }))
     (Item (r .start) (record { start = plusOf (r .start) 1; end = r .end; exhausted = false })))
+
+-- The inclusive walk upward modulo 65,536: a number and then each of the next `more`.
+abbrev pub walk : SeqNum → ℕ → List SeqNum
+walk s zero = s ∷ []
+walk s (suc more) = s ∷ walk (plusOf s 1) more
+
+-- What a range has still to hand out.
+abbrev pub walkOf : CircularRangeInclusive → List SeqNum
+walkOf r = cond (r .exhausted) [] (walk (r .start) (offsetOf (r .end) (r .start) .0))

@@ -64,6 +64,7 @@ typeRead-one-to-one = by-inverse typeRead back undone
     back : Answer PacketType → TypeRead
     back (done t) = Known t
     back (refused n) = Unknown
+
     undone : (a : TypeRead) → back (typeRead a) ≡ a
     undone (Known t) = refl
     undone Unknown = refl
@@ -74,6 +75,7 @@ checked-one-to-one = by-inverse checked back undone
     back : Answer ℕ → Checked
     back (done n) = Fine n
     back (refused n) = Bad (sackReason n)
+
     undone : (a : Checked) → back (checked a) ≡ a
     undone (Fine n) = refl
     undone (Bad Insufficient) = refl
@@ -86,6 +88,7 @@ decoded-one-to-one = by-inverse decoded back undone
     back : Answer Packet → Decoded
     back (done p) = Accepted p
     back (refused n) = Undecoded (reason n)
+
     undone-reason : (r : Reason) → reason (reasonNumber r) ≡ r
     undone-reason (InHeader TooShort) = refl
     undone-reason (InHeader UnknownType) = refl
@@ -95,6 +98,7 @@ decoded-one-to-one = by-inverse decoded back undone
     undone-reason (InSack NotWords) = refl
     undone-reason (InSack TooLong) = refl
     undone-reason EmptyPayload = refl
+
     undone : (a : Decoded) → back (decoded a) ≡ a
     undone (Accepted p) = refl
     undone (Undecoded r) = ap Undecoded (undone-reason r)
@@ -105,12 +109,14 @@ encoded-one-to-one = by-inverse encoded back undone
     back : Answer ℕ → Encoded
     back (done n) = Written n
     back (refused n) = Refused (unwritten n)
+
     undone-reason : (r : Unwritten) → unwritten (unwrittenNumber r) ≡ r
     undone-reason (BadSack Insufficient) = refl
     undone-reason (BadSack NotWords) = refl
     undone-reason (BadSack TooLong) = refl
     undone-reason NoPayload = refl
     undone-reason NoRoom = refl
+
     undone : (a : Encoded) → back (encoded a) ≡ a
     undone (Written n) = refl
     undone (Refused r) = ap Refused (undone-reason r)
