@@ -43,11 +43,17 @@ def main():
             continue
         promises = crate / "proofs" / "Promises.antt"
         listed = promises.read_text() if promises.exists() else ""
-        for file in sorted(lib.parent.glob("*.rt")):
-            module = "" if file.name == "lib.rt" else file.stem + "."
+        files = sorted(lib.parent.glob("*.rt"))
+        homes = {}
+        for file in files:
+            for declared in re.findall(r"^pub (?:struct|enum) (\w+)", file.read_text(), re.M):
+                homes[declared] = file
+        for file in files:
             for number, owner, name, contract in functions(file.read_text()):
                 count += 1
-                path = module + (owner + "." if owner else "") + name
+                # A method's module is its type's, wherever the `impl` stands.
+                home = homes.get(owner, file)
+                path = ("" if home.name == "lib.rt" else home.stem + ".") + (owner + "." if owner else "") + name
                 shown = crate.name + "::" + path.replace(".", "::")
                 if re.search(r"^\s*requires", contract, re.M):
                     problems.append(f"{file}:{number}: {shown} has a `requires`")
