@@ -1,3 +1,4 @@
 -- Laws about the definitions, by topic.
 pub mod Trip
 pub mod Window
+pub mod Numbers

@@ -1,5 +1,5 @@
 // The congestion controller: settings, window, round trip, timeout, delay samples.
 pub mod numbers;
 pub mod settings;
-pub mod trip;
-pub mod window;
+mod trip;
+mod window;

@@ -67,14 +67,14 @@ at-least-least m (negsuc n) = omega arith
 
 -- never below the minimum, where the old one is not
 pub maximum-at-least-minimum : (minimum increase maximum : ℕ) (z : ℤ)
-    → minimum ≤ maximum → maximum ≤ top → minimum ≤ nextMaximumOf minimum increase maximum z
+    → minimum ≤ maximum → minimum ≤ top → minimum ≤ nextMaximumOf minimum increase maximum z
 unfolding nextMaximumOf
 maximum-at-least-minimum minimum increase maximum z h k = omega (arith, at-least-least minimum (pos maximum +ℤ z))
 
 -- The fault that started this work: where the delay is so far above the target that old maximum + adjustment falls below the minimum, 0 or
 -- further, the new maximum is the minimum. The Rust casts the negative sum to a large number and takes old maximum + increase.
 pub maximum-falls-to-minimum : (minimum increase maximum : ℕ) (z : ℤ)
-    → minimum ≤ maximum → maximum ≤ top → (pos maximum +ℤ z) <ℤ (pos minimum) → nextMaximumOf minimum increase maximum z ≡ minimum
+    → minimum ≤ maximum → minimum ≤ top → (pos maximum +ℤ z) <ℤ (pos minimum) → nextMaximumOf minimum increase maximum z ≡ minimum
 unfolding nextMaximumOf
 maximum-falls-to-minimum minimum increase maximum z h k l =
     ap (λ (m : ℕ). min (min m (maximum + increase)) top) (below minimum (pos maximum +ℤ z) l) ∙ omega arith
