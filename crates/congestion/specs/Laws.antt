@@ -2,3 +2,4 @@
 pub mod Trip
 pub mod Window
 pub mod Numbers
+pub mod Delays

@@ -3,4 +3,5 @@ pub mod Settings
 pub mod Trip
 pub mod Window
 pub mod Numbers
+pub mod Delays
 pub mod Laws
