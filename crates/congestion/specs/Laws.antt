@@ -3,3 +3,4 @@ pub mod Trip
 pub mod Window
 pub mod Numbers
 pub mod Delays
+pub mod Controller

@@ -4,4 +4,6 @@ pub mod Trip
 pub mod Window
 pub mod Numbers
 pub mod Delays
+pub mod Answer
+pub mod Controller
 pub mod Laws

@@ -1,4 +1,6 @@
 // The congestion controller: settings, window, round trip, timeout, delay samples.
+pub mod answer;
+pub mod controller;
 pub mod delays;
 pub mod numbers;
 pub mod settings;
