@@ -3,4 +3,6 @@ pub mod Trip
 pub mod Window
 pub mod Numbers
 pub mod Delays
+pub mod Samples
+pub mod Base
 pub mod Controller

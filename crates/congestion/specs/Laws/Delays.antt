@@ -183,7 +183,7 @@ drop-take (suc n) (suc k) (x ∷ l) h =
 part-of-array : (kept : List Sample) (n first left : ℕ) → first ≤ n → left ≤ n - first → take left (drop first (take n kept)) ≡ take left (drop first kept)
 part-of-array kept n first left h k = ap (take left) (drop-take n first kept h) ∙ take-take left (n - first) (drop first kept) k
 
-abbrev with-kept : List Sample → ℕ → Delays
+abbrev pub with-kept : List Sample → ℕ → Delays
 with-kept kept count = record { kept = kept; count = count }
 
 module _ (d : Delays) (delay clock window first left : ℕ) (full : length (d .kept) ≡ most) (few : d .count ≤ most) (first-in : first ≤ d .count)

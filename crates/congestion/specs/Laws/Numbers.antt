@@ -219,6 +219,14 @@ unfolding creditedOf timedOf adjustedOf
 credited-in-flight n base delay len true p = refl
 credited-in-flight n base delay len false p = refl
 
+-- The new maximum is the window rule's, whatever the round trip does.
+pub credited-maximum : (n : Numbers) (base delay len : ℕ) (once : Bool) (p : ℕ)
+    → creditedOf n base delay len once p .maximum
+    ≡ nextMaximumOf (minimumOf n) (n .increase) (n .maximum) (adjustmentOf (n .gain) (n .increase) (n .target) delay base len (n .«in_flight»))
+unfolding creditedOf timedOf adjustedOf
+credited-maximum n base delay len true p = refl
+credited-maximum n base delay len false p = refl
+
 -- ---- the start
 
 pub record InRange (s : Settings) : Type 0 where
