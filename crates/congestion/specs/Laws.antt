@@ -6,3 +6,4 @@ pub mod Delays
 pub mod Samples
 pub mod Base
 pub mod Controller
+pub mod Answer

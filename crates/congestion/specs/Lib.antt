@@ -7,3 +7,4 @@ pub mod Delays
 pub mod Answer
 pub mod Controller
 pub mod Laws
+pub mod Marked
