@@ -6,7 +6,7 @@ use crate::trip;
 use crate::window;
 ghost use mathlib.Core.Path.{_≡_};
 ghost use mathlib.Core.Bool.{true};
-ghost use Prim.Native.Nat.{_≤_, _^_};
+ghost use Prim.Native.Nat.{_≤_, _/_, _^_};
 ghost use Rattle.congestion.specs.Numbers.{minimumOf, freeOf, soundOf, newOf, acceptedOf, transmittedOf, adjustedOf, landedOf, timedOf, ackedOf, lostOf, timedOutOf, whenSound};
 
 // Times are whole microseconds, sizes bytes.
@@ -24,6 +24,13 @@ pub struct Numbers {
     pub variance: u64,
     pub timeout: u64,
     pub last: u64,
+}
+
+// Half of a maximum, rounding down.
+fn halved(maximum: u32) -> u32
+    ensures { λ r. ⌜ r ≡ maximum / 2 ⌝ }
+{
+    maximum / 2
 }
 
 impl Numbers {
@@ -200,11 +207,12 @@ impl Numbers {
             return self;
         }
         let minimum = 2 * self.largest_packet;
+        let half = halved(self.maximum);
         let mut next = self;
-        if self.maximum / 2 <= minimum {
+        if half <= minimum {
             next.maximum = minimum;
         } else {
-            next.maximum = self.maximum / 2;
+            next.maximum = half;
         }
         next
     }

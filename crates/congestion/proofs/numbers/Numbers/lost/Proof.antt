@@ -27,11 +27,15 @@ mul-minimum c =
     let s = sound-facts _ (sound-here (c .before)) in
     omega (arith, s .rules .largest-packet-in .1)
 
+halved-requires : tie.Need-halved-requires
+halved-requires c κs = search needs
+
 returns-2 : tie.Need-returns-2
 returns-2 c = simp (sound-here (c .before .before .before)) (ap (λ (k : ℕ). withWindow (c .before .before .before .before .before .args .self) k (c .before .before .before .before .before .args .self .«in_flight»)) (omega arith))
 
 returns-3 : tie.Need-returns-3
-returns-3 c = simp (sound-here (c .before .before .before .before)) (ap (λ (k : ℕ). withWindow (c .before .before .before .before .before .before .args .self) k (c .before .before .before .before .before .before .args .self .«in_flight»)) (omega arith))
+returns-3 c = simp (sound-here (c .before .before .before)) (ap (λ (k : ℕ). withWindow (c .before .before .before .before .before .args .self) k (c .before .before .before .before .before .args .self .«in_flight»)) (omega arith))
 
 pub lost-spec : {M : Type 1} → statement M
-lost-spec = tie.close (tie.spec sound-requires returns mul-minimum returns-2 returns-3)
+lost-spec =
+    tie.close (tie.spec sound-requires returns mul-minimum halved-requires returns-2 returns-3)
