@@ -6,5 +6,6 @@ pub mod Numbers
 pub mod Delays
 pub mod Answer
 pub mod Controller
+pub mod Rust
 pub mod Laws
 pub mod Marked
