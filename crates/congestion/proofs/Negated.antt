@@ -1,10 +1,10 @@
 -- The float of a difference below zero is the negated float of its size, since rounding does not look at the sign.
 use mathlib.Core.Path.{_≡_, refl, sym, ap, _∙_}
 use mathlib.Core.Bool.{Bool, true, false, cond}
-use Prim.Native.Nat.{ℕ, zero, suc, _-_, _*_, _^_, _≤_, _<_}
+use Prim.Native.Nat.{ℕ, zero, suc, _-_, _*_, _^_, _<_}
 use native.Mathlib.Omega.{arith}
 use lib.Dec.{ltb}
-use lib.IntN.{ℤ, pos, negsuc, subℕ}
+use lib.IntN.{ℤ, pos, subℕ}
 use lib.Ieee.{inf, Format, prec, low, odd, units, round, neg, ofInt}
 use lib.Ieee.Fits.{round-is}
 use Rattle.congestion.specs.Laws.Trip.{sub-from-below}

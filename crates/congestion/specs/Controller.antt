@@ -8,7 +8,6 @@ use Rattle.congestion.specs.declared.numbers.Numbers.{Numbers}
 use Rattle.congestion.specs.declared.delays.Delays.{Delays}
 use Rattle.congestion.specs.declared.answer.Reason.{Reason}
 use Rattle.congestion.specs.declared.answer.Reason.the-variants.{SettingOutOfRange, TimeOutOfRange, NotSent, WindowFull, NotSound}
-use Rattle.congestion.specs.declared.answer.Answer.{Answer}
 use Rattle.congestion.specs.declared.answer.Answer.the-variants.{Done, Refused}
 use Rattle.congestion.specs.declared.controller.Controller.{Controller}
 use Rattle.congestion.specs.declared.controller.Outcome.{Outcome}

@@ -48,13 +48,13 @@ fn done(numbers: Numbers, delays: Delays) -> Outcome
 
 impl Controller {
     // The latest time and the longest delay: 2^50.
-    pub const LATEST: u64 = 0x4_0000_0000_0000;
+    pub const LATEST: u64 = Settings::LATEST;
     // Where a doubled timeout is held: 2^53.
-    pub const LONGEST_TIMEOUT: u64 = 0x20_0000_0000_0000;
+    pub const LONGEST_TIMEOUT: u64 = Numbers::LONGEST_TIMEOUT;
     // How many delay samples are kept.
-    pub const MOST_SAMPLES: u32 = 1024;
+    pub const MOST_SAMPLES: u32 = Delays::MOST;
     // The largest maximum window: 2^32 - 1.
-    pub const LARGEST_MAXIMUM: u32 = 0xffff_ffff;
+    pub const LARGEST_MAXIMUM: u32 = Numbers::LARGEST_MAXIMUM;
 
     // A controller at its start. Refused: 10, with a controller that is not sound.
     pub fn new(settings: Settings) -> Outcome

@@ -1,4 +1,5 @@
 // The kept delay samples, and the base delay that they give.
+use crate::settings::Settings;
 ghost use mathlib.Core.Path.{_≡_};
 ghost use mathlib.Core.Bool.{Bool};
 ghost use Prim.Native.Nat.{_+_, _-_, _≤_};
@@ -72,7 +73,7 @@ impl Delays {
             return false;
         }
         let mut i = self.count as usize;
-        let mut below: u64 = 0x4_0000_0000_0001;
+        let mut below: u64 = Settings::LATEST + 1;
         let mut by = last;
         while 0 < i {
             i -= 1;

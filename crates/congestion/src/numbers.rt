@@ -34,8 +34,8 @@ fn halved(maximum: u32) -> u32
 }
 
 impl Numbers {
-    // The latest time: 2^50.
-    pub const LATEST: u64 = 0x4_0000_0000_0000;
+    // The largest maximum window, and where delays are held: 2^32 - 1.
+    pub const LARGEST_MAXIMUM: u32 = 0xffff_ffff;
     // Where a doubled timeout is held: 2^53.
     pub const LONGEST_TIMEOUT: u64 = 0x20_0000_0000_0000;
 
@@ -80,17 +80,17 @@ impl Numbers {
     pub fn sound(self) -> bool
         ensures { λ r. ⌜ r ≡ soundOf self ⌝ }
     {
-        let rules = (1000 <= self.target)
-            & ((1 <= self.minimum_timeout) & (self.minimum_timeout <= Numbers::LATEST))
-            & ((1 <= self.delay_window) & (self.delay_window <= Numbers::LATEST))
-            & ((1 <= self.largest_packet) & (self.largest_packet <= 65535))
-            & ((1 <= self.increase) & (self.increase <= 0x10_0000))
+        let rules = (Settings::SHORTEST_TARGET <= self.target)
+            & ((1 <= self.minimum_timeout) & (self.minimum_timeout <= Settings::LATEST))
+            & ((1 <= self.delay_window) & (self.delay_window <= Settings::LATEST))
+            & ((1 <= self.largest_packet) & (self.largest_packet <= Settings::LARGEST_PACKET))
+            & ((1 <= self.increase) & (self.increase <= Settings::LARGEST_INCREASE))
             & gain_in_range(self.gain);
         let running = (2 * (self.largest_packet as u64) <= (self.maximum as u64))
-            & (self.trip <= Numbers::LATEST)
-            & (self.variance <= Numbers::LATEST)
+            & (self.trip <= Settings::LATEST)
+            & (self.variance <= Settings::LATEST)
             & ((1 <= self.timeout) & (self.timeout <= Numbers::LONGEST_TIMEOUT))
-            & (self.last <= Numbers::LATEST);
+            & (self.last <= Settings::LATEST);
         rules & running
     }
 
@@ -189,7 +189,7 @@ impl Numbers {
         if !self.sound() {
             return self;
         }
-        if Numbers::LATEST < trip {
+        if Settings::LATEST < trip {
             return self;
         }
         let landed = self.adjusted(base, delay, len).landed(len);

@@ -23,16 +23,16 @@ pub fn gain_in_range(gain: f64) -> bool
 }
 
 impl Settings {
-    // The latest time, and the longest timeout and delay window: 2^50.
+    // The latest time, and the longest timeout and delay window that may be set: 2^50.
     pub const LATEST: u64 = 0x4_0000_0000_0000;
+    // The shortest and the longest target delay.
+    pub const SHORTEST_TARGET: u32 = 1000;
 
-    pub const SHORTEST_TARGET: u64 = 1000;
+    pub const LONGEST_TARGET: u32 = 0xffff_ffff;
+    // The largest packet, and the largest window increase: 2^20.
+    pub const LARGEST_PACKET: u32 = 65535;
 
-    pub const LONGEST_TARGET: u64 = 0xffff_ffff;
-
-    pub const LARGEST_PACKET: u64 = 65535;
-
-    pub const LARGEST_INCREASE: u64 = 0x10_0000;
+    pub const LARGEST_INCREASE: u32 = 0x10_0000;
 
     // Is every setting in its range? (If not, a session's start is refused with 10.)
     pub fn in_range(self) -> bool
@@ -45,11 +45,11 @@ impl Settings {
             & (1 <= self.delay_window)
             & (self.delay_window <= Settings::LATEST);
         let sizes = (1 <= self.largest_packet)
-            & (self.largest_packet <= Settings::LARGEST_PACKET)
+            & (self.largest_packet <= (Settings::LARGEST_PACKET as u64))
             & (1 <= self.increase)
-            & (self.increase <= Settings::LARGEST_INCREASE);
-        (Settings::SHORTEST_TARGET <= self.target_delay)
-            & (self.target_delay <= Settings::LONGEST_TARGET)
+            & (self.increase <= (Settings::LARGEST_INCREASE as u64));
+        ((Settings::SHORTEST_TARGET as u64) <= self.target_delay)
+            & (self.target_delay <= (Settings::LONGEST_TARGET as u64))
             & times
             & sizes
             & gain_in_range(self.gain)

@@ -1,4 +1,5 @@
 // The window rule: how far an acknowledgement moves the maximum, in f64, and where it is bounded.
+use crate::numbers::Numbers;
 ghost use mathlib.Core.Path.{_≡_};
 ghost use mathlib.Core.Bool.{true, false};
 ghost use Prim.Native.Nat.{min, max, _+_, _-_, _^_};
@@ -7,6 +8,9 @@ ghost use lib.Dec.{T};
 ghost use lib.Ieee as Ieee;
 ghost use lib.Ieee.{fin, binary64};
 ghost use Rattle.congestion.specs.Window.{heldOf, offOf, adjustmentOf, riseOf, fallOf, nextMaximumOf};
+
+// Where delays are held, and the largest maximum.
+const TOP: u64 = Numbers::LARGEST_MAXIMUM as u64;
 
 // The whole part of an x from 1 up to 2^64: the digits of its bit pattern, shifted.
 fn digits_of(x: f64) -> u64
@@ -50,10 +54,10 @@ fn truncated(x: f64) -> i64
 fn held(delay: u64) -> u32
     ensures { λ r. ⌜ r ≡ heldOf delay ⌝ }
 {
-    if delay <= 0xffff_ffff {
+    if delay <= TOP {
         delay as u32
     } else {
-        0xffff_ffff
+        Numbers::LARGEST_MAXIMUM
     }
 }
 
@@ -111,7 +115,7 @@ fn bounded(minimum: u32, increase: u32, maximum: u32, moved: u64) -> u32
 {
     let above = larger(minimum as u64, moved);
     let step = smaller(above, (maximum as u64) + (increase as u64));
-    smaller(step, 0xffff_ffff) as u32
+    smaller(step, TOP) as u32
 }
 
 // How far up a signed number lies from 0.

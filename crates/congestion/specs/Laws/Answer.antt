@@ -3,11 +3,10 @@ use mathlib.Core.Path.{_≡_, refl, sym, ap, _∙_}
 use mathlib.Core.Bool.{cond}
 use Prim.Native.Nat.{ℕ}
 use lib.Dec.{eqb}
-use Rattle.congestion.specs.declared.answer.Reason.{Reason}
 use Rattle.congestion.specs.declared.answer.Reason.the-variants.{SettingOutOfRange, TimeOutOfRange, NotSent, WindowFull, NotSound}
 use Rattle.congestion.specs.declared.answer.Answer.{Answer}
 use Rattle.congestion.specs.declared.answer.Answer.the-variants.{Done, Refused}
-use Rattle.congestion.specs.Answer.{reasonNumberOf, numberOf}
+use Rattle.congestion.specs.Answer.{numberOf}
 
 -- the answer that has a number
 abbrev answerAt : ℕ → Answer

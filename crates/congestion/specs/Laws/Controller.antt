@@ -1,7 +1,7 @@
 -- What the controller's soundness test says, that every controller reached from a fresh one is sound, and the bounds of its maximum.
-use mathlib.Core.Path.{_≡_, refl, sym, ap, _∙_, subst⁻¹}
+use mathlib.Core.Path.{_≡_, refl, ap, subst⁻¹}
 use mathlib.Core.Bool.{Bool, true, false, _&&_, cond}
-use Prim.Native.Nat.{ℕ, _+_, _-_, _≤_}
+use Prim.Native.Nat.{ℕ, _-_, _≤_}
 use native.Mathlib.Omega.{arith}
 use lib.Dec.{leb}
 use borrow.Author.Tests.{leb-true}
@@ -15,7 +15,7 @@ use Rattle.congestion.specs.declared.controller.Transmit.the-variants.{I
 use Rattle.congestion.specs.declared.controller.Packet.{Packet}
 use Rattle.congestion.specs.declared.answer.Reason.the-variants.{SettingOutOfRange, TimeOutOfRange, NotSent, WindowFull, NotSound}
 use Rattle.congestion.specs.Settings.{latest, inRangeOf}
-use Rattle.congestion.specs.Numbers.{soundOf, minimumOf, freeOf, newOf, startOf, noNumbers, acceptedOf, sentOf, creditedOf, lostOf, timedOutOf}
+use Rattle.congestion.specs.Numbers.{soundOf, minimumOf, freeOf, startOf, noNumbers, acceptedOf, sentOf, creditedOf, lostOf, timedOutOf}
 use Rattle.congestion.specs.Delays.{noDelays, listOf, takenOf, baseOf, delaysSoundOf}
 use Rattle.congestion.specs.Controller.{refusedOf, doneOf, controllerOf, controllerSoundOf, ifSound, inTimeOf, sendOf, onTransmitOf, creditOf, onAckOf, onLossOf, onTimeoutOf}
 use Rattle.congestion.specs.Laws.Numbers.{both, and-of, between-of, Sound, sound-facts, sound-from, settings-facts, start-sound, accepted-sound, sent-sound, credited-sound, credited-maximum, lost-sound, timed-out-sound}
@@ -30,6 +30,10 @@ numbers-sound c e = both (soundOf (c .numbers)) (delaysSoundOf (c .numbers .last
 pub delays-sound : (c : Controller) → controllerSoundOf c ≡ true → delaysSoundOf (c .numbers .last) (c .delays) ≡ true
 unfolding controllerSoundOf
 delays-sound c e = both (soundOf (c .numbers)) (delaysSoundOf (c .numbers .last) (c .delays)) e .1
+
+-- A forged controller gets 19 from every call that hands a state back, and comes back as it was.
+pub forged-refused : (c : Controller) → controllerSoundOf c ≡ false → (o : Outcome) → ifSound c o ≡ refusedOf c NotSound
+forged-refused c e o = ap (λ (t : Bool). cond t o (refusedOf c NotSound)) e
 
 -- ---- what every call keeps: the test passes, and the maximum is at most 2^32 - 1
 

@@ -7,12 +7,12 @@ use native.Mathlib.Nat.{add-comm}
 use native.Mathlib.Numerals.{add-one}
 use native.Mathlib.Omega.{arith}
 use lib.Dec.{T, leb, ltb, eqb}
-use lib.ListN.{length, take, drop, getD, set, length-take, length-drop, length-append, take-append-drop, drop-of-length-le}
-use lib.Seq.{take-nil, take-suc, drop-cons, take-append-le, set-at, set-split, take-all, length-take-le, drop-drop, drop-append-add, getD-append-add, getD-drop, getD-take, drop-at, take-take}
+use lib.ListN.{length, take, drop, getD, set, length-take, length-drop, length-append, drop-of-length-le}
+use lib.Seq.{take-nil, take-suc, drop-cons, take-append-le, set-at, set-split, take-all, length-take-le, drop-drop, drop-append-add, getD-append-add, getD-drop, getD-take, take-take}
 use borrow.Author.Tests.{eqb-true, eqb-false, le-ltb, lt-ltb, le-leb, lt-leb}
 use Rattle.congestion.specs.declared.delays.Sample.{Sample}
 use Rattle.congestion.specs.declared.delays.Delays.{Delays}
-use Rattle.congestion.specs.Delays.{dropFront, onto, dropBack, most, expiredOf, notSmallerOf, remainingOf, roomOf, takeOf, baseOf, listOf, writtenOf, takenOf, delayBelow, timeBy, keptSoundOf, movedDownOf, roomCountOf}
+use Rattle.congestion.specs.Delays.{dropFront, onto, dropBack, most, expiredOf, notSmallerOf, remainingOf, roomOf, takeOf, baseOf, listOf, writtenOf, delayBelow, timeBy, keptSoundOf, movedDownOf, roomCountOf}
 use Rattle.congestion.specs.Laws.Numbers.{both}
 
 -- ---- from the front

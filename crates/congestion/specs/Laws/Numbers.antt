@@ -1,19 +1,20 @@
 -- What the soundness test says, and that every move of the controller's numbers keeps it.
-use mathlib.Core.Path.{_≡_, refl, sym, ap, _∙_}
-use mathlib.Core.Bool.{Bool, true, false, _&&_, cond}
-use Prim.Native.Nat.{ℕ, _+_, _*_, _-_, _/_, _^_, _≤_, _<_, min, max}
+use mathlib.Core.Path.{_≡_, refl, _∙_, subst⁻¹}
+use mathlib.Core.Bool.{Bool, true, false, _&&_}
+use Prim.Native.Nat.{ℕ, _+_, _-_, _^_, _≤_}
 use native.Mathlib.Omega.{arith}
 use lib.Dec.{leb}
-use lib.IntN.{natAbs, subℕ}
+use lib.IntN.{pos, natAbs, subℕ, _+ℤ_}
+use lib.Signed.{_<ℤ_}
 use borrow.Author.Tests.{leb-true, le-leb}
 use Rattle.congestion.specs.declared.settings.Settings.{Settings}
 use Rattle.congestion.specs.declared.numbers.Numbers.{Numbers}
 use Rattle.congestion.specs.Settings.{between, latest, gainInRangeOf, inRangeOf, timesInRangeOf}
-use Rattle.congestion.specs.Trip.{varianceOf, tripOf, timeoutOf, movedOf}
+use Rattle.congestion.specs.Trip.{varianceOf, tripOf}
 use Rattle.congestion.specs.Window.{adjustmentOf, nextMaximumOf}
-use Rattle.congestion.specs.Numbers.{longestTimeout, minimumOf, freeOf, withWindow, withTrip, startOf, rulesSoundOf, runningSoundOf, soundOf, whenSound, acceptedOf, sentOf, transmittedOf, adjustedOf, landedOf, timedOf, creditedOf, ackedOf, lostOf, timedOutOf}
+use Rattle.congestion.specs.Numbers.{longestTimeout, minimumOf, withWindow, withTrip, startOf, rulesSoundOf, runningSoundOf, soundOf, acceptedOf, sentOf, adjustedOf, landedOf, timedOf, creditedOf, lostOf, timedOutOf}
 use Rattle.congestion.specs.Laws.Trip.{moved-at-most, apart-at-most}
-use Rattle.congestion.specs.Laws.Window.{maximum-at-least-minimum}
+use Rattle.congestion.specs.Laws.Window.{maximum-at-least-minimum, maximum-grows-by-increase, maximum-falls-to-minimum}
 
 -- ---- tests that hold together
 
@@ -226,6 +227,21 @@ pub credited-maximum : (n : Numbers) (base delay len : ℕ) (once : Bool) (p : �
 unfolding creditedOf timedOf adjustedOf
 credited-maximum n base delay len true p = refl
 credited-maximum n base delay len false p = refl
+
+-- The fault that started this work, of a whole acknowledgement: where the delay is so far above the target that old maximum + adjustment falls below
+-- the minimum, the new maximum is the minimum.
+pub credited-falls-to-minimum : (n : Numbers) (base delay len : ℕ) (once : Bool) (p : ℕ) → Sound n
+    → (pos (n .maximum) +ℤ adjustmentOf (n .gain) (n .increase) (n .target) delay base len (n .«in_flight»)) <ℤ (pos (minimumOf n))
+    → creditedOf n base delay len once p .maximum ≡ minimumOf n
+credited-falls-to-minimum n base delay len once p s h =
+    credited-maximum n base delay len once p
+    ∙ maximum-falls-to-minimum (minimumOf n) (n .increase) (n .maximum) _ (s .running .maximum-from) (omega (arith, s .rules .largest-packet-in .1)) h
+
+-- The maximum never grows by more than the increase.
+pub credited-grows-by-increase : (n : Numbers) (base delay len : ℕ) (once : Bool) (p : ℕ)
+    → creditedOf n base delay len once p .maximum ≤ n .maximum + n .increase
+credited-grows-by-increase n base delay len once p =
+    subst⁻¹ (λ (k : ℕ). k ≤ n .maximum + n .increase) (credited-maximum n base delay len once p) (maximum-grows-by-increase (minimumOf n) (n .increase) (n .maximum) _)
 
 -- ---- the start
 

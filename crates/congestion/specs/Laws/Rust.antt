@@ -1,15 +1,15 @@
 -- In document 01's range every f64 step of the Rust's move of a round trip or a variance is exact, so that signed division agrees with it.
-use mathlib.Core.Path.{_≡_, refl, sym, ap, _∙_, subst, subst⁻¹}
+use mathlib.Core.Path.{_≡_, refl, sym, ap, _∙_}
 use mathlib.Core.Bool.{Bool, true, false, not, cond}
-use Prim.Native.Nat.{ℕ, zero, suc, _+_, _-_, _*_, _/_, _^_, _≤_, _<_, min}
+use Prim.Native.Nat.{ℕ, suc, _-_, _*_, _/_, _^_, _≤_, _<_, min}
 use native.Mathlib.Nat.{mul-pos, mul-assoc, mul-comm, mul-one, zero-mul, div-le-self, mul-sub, mul-lt-mul-of-pos-right, mul-le-mul-right, lt-of-le-of-lt}
 use native.Mathlib.Omega.{arith}
 use lib.Dec.{ltb, eqb, lit<}
-use lib.IntN.{ℤ, pos, negsuc, negℤ, natAbs, subℕ}
+use lib.IntN.{ℤ, pos, negsuc, negℤ, natAbs, subℕ, _+ℤ_}
 use lib.Signed.{quotZ}
 use lib.Pow.{shl-lt}
-use lib.Ieee.{Float, nan, inf, fin, Format, binary64, prec, low, emax, up, down, unlike, round, neg, sum, add, sub, div, ofInt, toSigned}
-use lib.Ieee.Fits.{down-pos, up-pos}
+use lib.Ieee.{Float, nan, inf, fin, binary64, up, down, unlike, round, neg, sum, add, sub, div, ofInt, toSigned}
+use lib.Ieee.Fits.{down-pos}
 use lib.Ieee.Exact.{HasValue, round-exact}
 use lib.Ieee.Back.{round-whole}
 use lib.Ieee.Scale.{round-same}
@@ -127,6 +127,7 @@ truncated (fin t m e) s n share h g k =
   where
     low-min : (a : ℕ) → a < 2 ^ 63 → min a (2 ^ 63) ≡ a
     low-min a h = omega arith
+
     low-min′ : (a : ℕ) → a < 2 ^ 63 → min a (2 ^ 63 - 1) ≡ a
     low-min′ a h = omega arith
 
@@ -167,3 +168,12 @@ quarter-agrees = agrees 4 (omega arith) (omega arith) quarter-exact
 -- The round trip's move: (p - r) / 8.
 pub eighth-agrees : (old to : ℕ) → old ≤ 2 ^ 50 → to ≤ 2 ^ 50 → rustMoveOf 8 old to ≡ quotZ (subℕ to old) (pos 8)
 eighth-agrees = agrees 8 (omega arith) (omega arith) eighth-exact
+
+-- So the definitions' variance and round trip are what the Rust's f64 work gives.
+pub variance-as-in-rust : (v to : ℕ) → v ≤ 2 ^ 50 → to ≤ 2 ^ 50 → movedOf 4 v to ≡ heldAtZero (pos v +ℤ rustMoveOf 4 v to)
+unfolding movedOf
+variance-as-in-rust v to h k = ap (λ (z : ℤ). heldAtZero (pos v +ℤ z)) (sym (quarter-agrees v to h k))
+
+pub trip-as-in-rust : (r p : ℕ) → r ≤ 2 ^ 50 → p ≤ 2 ^ 50 → movedOf 8 r p ≡ heldAtZero (pos r +ℤ rustMoveOf 8 r p)
+unfolding movedOf
+trip-as-in-rust r p h k = ap (λ (z : ℤ). heldAtZero (pos r +ℤ z)) (sym (eighth-agrees r p h k))

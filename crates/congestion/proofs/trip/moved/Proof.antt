@@ -1,5 +1,5 @@
 -- `moved` meets its contract: the signed quotient is that of the sizes, and a part of the way down is never more than `old`.
-use mathlib.Core.Path.{sym, _∙_}
+use mathlib.Core.Path.{sym}
 use Prim.Native.Nat.{_-_}
 use native.Mathlib.Nat.{div-le-self}
 use native.Mathlib.Omega.{arith}

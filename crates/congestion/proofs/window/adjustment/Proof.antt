@@ -1,6 +1,5 @@
 -- `adjustment` meets its contract: the code's five operations are the definition's, in its order.
-use mathlib.Core.Path.{_≡_, sym, ap, _∙_}
-use lib.Dec.{eqb}
+use mathlib.Core.Path.{_∙_}
 use mir.Syntax.{w64}
 use mir.ValLaws.{toZ-ofZ}
 use borrow.Author.Needs.{needs}

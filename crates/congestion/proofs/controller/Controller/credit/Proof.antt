@@ -1,5 +1,5 @@
 -- `credit` meets its contract: the numbers are sound and the round trip is at most 2^50, so `acked` credits the packet.
-use mathlib.Core.Path.{_≡_, sym, _∙_}
+use mathlib.Core.Path.{_≡_}
 use mathlib.Core.Bool.{true}
 use Prim.Native.Nat.{_-_}
 use lib.Dec.{leb}

@@ -1,5 +1,5 @@
 -- `new` meets its contract: the parts are made either way, and the answer goes by the settings.
-use mathlib.Core.Path.{_≡_, sym, _∙_}
+use mathlib.Core.Path.{sym, _∙_}
 use borrow.Author.Needs.{needs}
 use Rattle.congestion.proofs.controller.Controller.new.Statement.{statement}
 use Rattle.congestion.proofs.controller.Controller.new.Tie as tie

@@ -2,7 +2,7 @@
 use mathlib.Core.Path.{_≡_, sym, _∙_}
 use mathlib.Core.Bool.{true, false}
 use borrow.Author.Tests.{not-true, not-false}
-use Rattle.congestion.specs.Controller.{controllerSoundOf, inTimeOf}
+use Rattle.congestion.specs.Controller.{controllerSoundOf}
 use borrow.Author.Needs.{needs}
 use Rattle.congestion.proofs.controller.Controller.on_transmit.Statement.{statement}
 use Rattle.congestion.proofs.controller.Controller.on_transmit.Tie as tie

@@ -1,5 +1,4 @@
 -- `send` meets its contract, by the kind of the transmit and the test of the free window.
-use mathlib.Core.Path.{_≡_, sym, _∙_}
 use borrow.Author.Tests.{le-leb, lt-leb}
 use Rattle.congestion.specs.Controller.{sendOf}
 use borrow.Author.Needs.{needs}

@@ -1,8 +1,7 @@
 -- `expired_count` meets its contract: the samples before `i` were expired, so dropping from the front goes on from `i`, and stops at the first
 -- that is not.
 use mathlib.Core.Path.{_≡_, refl, sym, ap, _∙_}
-use mathlib.Core.Bool.{true, false}
-use Prim.Native.Nat.{_≤_, _<_, _-_, _+_}
+use Prim.Native.Nat.{_≤_, _-_}
 use native.Mathlib.Numerals.{add-one}
 use native.Mathlib.Omega.{arith}
 use lib.ListN.{length, length-map, drop, getD, drop-of-length-le}

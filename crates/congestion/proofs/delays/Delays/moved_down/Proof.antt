@@ -1,11 +1,10 @@
 -- `moved_down` meets its contract: the first `i` have been moved, and what is read next stands past them, as it was.
 use mathlib.Core.Path.{_≡_, refl, sym, ap, _∙_}
 use mathlib.Core.List.{List, _++_}
-use Prim.Native.Nat.{ℕ, suc, _≤_, _<_, _-_, _+_}
+use Prim.Native.Nat.{ℕ, _≤_, _<_, _-_, _+_}
 use native.Mathlib.Numerals.{add-one}
 use native.Mathlib.Omega.{arith}
 use lib.ListN.{length, length-map, take, drop, getD, set, take-append-drop}
-use borrow.Author.Needs.{needs}
 use Rattle.congestion.specs.declared.delays.Sample.{Sample}
 use Rattle.congestion.specs.declared.delays.Delays.{Delays}
 use Rattle.congestion.specs.Delays.{movedDownOf, noSample}

@@ -1,9 +1,8 @@
 -- `remaining_count` meets its contract: the samples past `left` were not smaller, so dropping from the back goes on before them, and stops at
 -- the first that is smaller.
-use mathlib.Core.Path.{_≡_, refl, sym, ap, _∙_}
-use mathlib.Core.Bool.{true, false}
+use mathlib.Core.Path.{_≡_, sym, ap, _∙_}
 use mathlib.Core.List.{List}
-use Prim.Native.Nat.{ℕ, suc, _≤_, _<_, _-_, _+_}
+use Prim.Native.Nat.{ℕ, suc, _≤_, _-_, _+_}
 use native.Mathlib.Omega.{arith}
 use lib.Dec.{leb}
 use lib.ListN.{length, length-map, length-drop, take, drop, getD}

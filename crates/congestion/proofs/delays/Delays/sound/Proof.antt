@@ -1,14 +1,13 @@
 -- `sound` meets its contract: what stands from `i` on is sound, and `below` and `by` are the bounds that it sets for what stands before it.
-use mathlib.Core.Path.{_≡_, refl, sym, ap, _∙_}
-use mathlib.Core.Bool.{true, false, and-false}
-use mathlib.Core.List.{List, [], _∷_}
-use Prim.Native.Nat.{ℕ, suc, _≤_, _<_, _-_, _+_, _^_}
+use mathlib.Core.Path.{_≡_, sym, ap, _∙_}
+use mathlib.Core.Bool.{true, and-false}
+use mathlib.Core.List.{[], _∷_}
+use Prim.Native.Nat.{ℕ, suc, _≤_, _-_}
 use native.Mathlib.Omega.{arith}
-use lib.Dec.{leb, ltb}
 use lib.ListN.{length, length-map, drop, getD, drop-of-length-le}
 use lib.Seq.{drop-cons}
 use borrow.Author.Needs.{needs}
-use borrow.Author.Tests.{le-leb, lt-leb, le-ltb, lt-ltb}
+use borrow.Author.Tests.{le-leb, lt-leb}
 use Rattle.congestion.specs.declared.delays.Sample.{Sample}
 use Rattle.congestion.specs.Delays.{listOf, noSample, delayBelow, timeBy, keptSoundOf}
 use Rattle.congestion.specs.Laws.Delays.{list-length, list-at, unsound-by-delay, unsound-by-time, sound-with}
@@ -50,6 +49,9 @@ returns c = sym (simp (lt-leb _ _ (c .if1 .taken)))
 
 cast-i : tie.Need-cast-i Inv-loop μ-loop
 cast-i c = search needs
+
+add-below : tie.Need-add-below Inv-loop μ-loop
+add-below c = search needs
 
 loop-holds : tie.Need-loop-holds Inv-loop μ-loop
 loop-holds c =
@@ -115,6 +117,7 @@ sound-spec =
     μ-loop
     returns
     cast-i
+    add-below
     loop-holds
     sub-i
     mul-s

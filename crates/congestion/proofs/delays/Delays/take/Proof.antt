@@ -1,8 +1,7 @@
 -- `take` meets its contract: the two counts say which part of the list remains, that part is moved down, and the sample is put behind what
 -- stays of it.
 use mathlib.Core.Path.{_≡_, sym, ap, _∙_, subst⁻¹}
-use mathlib.Core.List.{List}
-use Prim.Native.Nat.{ℕ, suc, _+_, _≤_, _<_}
+use Prim.Native.Nat.{ℕ, suc, _<_}
 use native.Mathlib.Numerals.{add-one}
 use native.Mathlib.Omega.{arith}
 use lib.ListN.{length, length-map, set}
@@ -10,7 +9,7 @@ use borrow.Author.Needs.{needs}
 use borrow.Author.Tests.{le-leb, lt-leb}
 use Rattle.congestion.specs.declared.delays.Sample.{Sample}
 use Rattle.congestion.specs.declared.delays.Delays.{Delays}
-use Rattle.congestion.specs.Delays.{movedDownOf, roomCountOf}
+use Rattle.congestion.specs.Delays.{movedDownOf}
 use Rattle.congestion.specs.Laws.Delays.{room-at-most, taken-is}
 use Rattle.congestion.proofs.delays.Delays.take.Statement.{statement}
 use Rattle.congestion.proofs.delays.Delays.take.Tie as tie

@@ -1,7 +1,6 @@
 -- `acked` meets its contract: the steps are the definition's, in its order, and what the first two leave is sound.
-use mathlib.Core.Path.{_≡_, sym, ap, _∙_, subst⁻¹}
+use mathlib.Core.Path.{_≡_, sym, ap, _∙_}
 use mathlib.Core.Bool.{true, false}
-use native.Mathlib.Omega.{arith}
 use borrow.Author.Tests.{not-true, not-false, lt-leb, le-leb}
 use Rattle.congestion.specs.Numbers.{soundOf, landedOf, creditedOf}
 use Rattle.congestion.specs.declared.numbers.Numbers.{Numbers}

@@ -1,9 +1,9 @@
 -- `timed` meets its contract: the moves are the definition's, both by the old round trip; no sum overflows, since neither move passes 2^50.
-use mathlib.Core.Path.{_≡_, sym, ap, _∙_, subst⁻¹}
+use mathlib.Core.Path.{_≡_, ap, _∙_, subst⁻¹}
 use Prim.Native.Nat.{ℕ, _≤_, _^_}
 use native.Mathlib.Omega.{arith}
 use lib.IntN.{natAbs, subℕ}
-use Rattle.congestion.specs.Numbers.{withTrip, timedOf}
+use Rattle.congestion.specs.Numbers.{timedOf}
 use Rattle.congestion.specs.Trip.{movedOf}
 use Rattle.congestion.specs.Laws.Trip.{moved-at-most, apart-at-most}
 use Rattle.congestion.specs.Laws.Numbers.{sound-facts}

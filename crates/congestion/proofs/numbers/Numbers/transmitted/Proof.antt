@@ -1,5 +1,4 @@
 -- `transmitted` meets its contract: where the free window holds the packet, the sum is at most the maximum.
-use mathlib.Core.Path.{_≡_}
 use borrow.Author.Tests.{lt-leb, le-leb}
 use borrow.Author.Needs.{needs}
 use Rattle.congestion.proofs.numbers.Numbers.transmitted.Statement.{statement}
