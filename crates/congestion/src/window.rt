@@ -74,7 +74,7 @@ fn off_target(target: u32, delay: u32, base: u32) -> f64
 }
 
 // What the acknowledgement of `len` bytes adds to the maximum, while `in_flight` still counts them.
-pub fn adjustment(
+pub(crate) fn adjustment(
     gain: f64,
     increase: u32,
     target: u32,
@@ -149,7 +149,7 @@ fn less(a: u64, b: u64) -> u64
 
 // The new maximum: the smallest of the larger of the minimum and maximum + adjustment, maximum +
 // increase, and 2^32 - 1. A rise is held at 2^33, past every bound, so that no sum overflows.
-pub fn next_maximum(minimum: u32, increase: u32, maximum: u32, adjustment: i64) -> u32
+pub(crate) fn next_maximum(minimum: u32, increase: u32, maximum: u32, adjustment: i64) -> u32
     ensures { λ r. ⌜ r ≡ nextMaximumOf minimum increase maximum adjustment ⌝ }
 {
     let risen = (maximum as u64) + smaller(rise(adjustment), 0x2_0000_0000);
