@@ -1,0 +1,3 @@
+-- Laws about the definitions, by topic.
+pub mod Table
+pub mod State
