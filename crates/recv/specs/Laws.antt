@@ -1,3 +1,4 @@
 -- Laws about the definitions, by topic.
+pub mod Cases
 pub mod Table
 pub mod State

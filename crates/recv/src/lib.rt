@@ -1,9 +1,13 @@
 // The receiver: payloads that arrive in any order, handed out in order, over a buffer of bytes that
 // the caller lends to every call (document 01, "Receiving").
 use packet::seq::SeqNum;
+
 mod waiting;
+
 ghost use mathlib.Core.Path.{_≡_};
-ghost use Rattle.recv.specs.State.{soundOf};
+ghost use Prim.Native.Nat.{_≤_};
+ghost use Rattle.recv.specs.State.{soundOf, createdOf, noReceiverOf, countedOf, toldOf, numberedOf, ackOf, writtenBefore, emptyOf, tableOf};
+ghost use Rattle.recv.specs.Table.{bytesIn, howMany, thereOf, freeOf};
 
 // A receiver by value. `count` payloads are in order. The first `span` entries of `waiting` stand for
 // the offsets past them: 0 where nothing waits, else the payload's length plus 1. The lent buffer
@@ -34,6 +38,36 @@ pub enum Refusal {
     OtherLength,
     // 19: the state is not sound.
     NotSound,
+}
+
+// What a call that makes a receiver answers.
+pub enum Creation {
+    Made,
+    Refused(Refusal),
+}
+
+// The answer, and beside it the receiver; with a refusal, a state of length 0, which no call takes.
+pub struct Created {
+    pub answer: Creation,
+    pub state: ReceiveBuffer,
+}
+
+// How many, or why not.
+pub enum Count {
+    Is(usize),
+    Refused(Refusal),
+}
+
+// Whether it holds, or why that is not said.
+pub enum Truth {
+    Is(bool),
+    Refused(Refusal),
+}
+
+// Which number, or why none.
+pub enum Number {
+    Is(SeqNum),
+    Refused(Refusal),
 }
 
 impl ReceiveBuffer {
@@ -72,5 +106,162 @@ impl ReceiveBuffer {
         }
         let held = waiting::bytes_in(&self.waiting, places);
         (self.ready as u64) + held <= length as u64
+    }
+    // A receiver for payloads after `initial`, over a buffer of `length` bytes. Refusals: 10.
+    pub fn new(initial: SeqNum, length: usize) -> Created
+        ensures { λ r. ⌜ r ≡ createdOf initial length ⌝ }
+    {
+        if length < 1 {
+            return refused_new(initial);
+        }
+        if length > 65536 {
+            return refused_new(initial);
+        }
+        let state = ReceiveBuffer {
+            initial,
+            length: length as u32,
+            count: 0,
+            ready: 0,
+            span: 0,
+            waiting: [0u32; 256],
+        };
+        Created {
+            answer: Creation::Made,
+            state,
+        }
+    }
+
+    // How many bytes more the buffer can hold. Refusals: 19.
+    pub fn available(self) -> Count
+        ensures { λ r. ⌜ r ≡ countedOf self (freeOf (self .length) (self .ready) (tableOf self)) ⌝ }
+    {
+        if self.is_sound() {
+            let held = waiting::bytes_in(&self.waiting, self.span as usize);
+            Count::Is(((self.length - self.ready) as u64 - held) as usize)
+        } else {
+            Count::Refused(Refusal::NotSound)
+        }
+    }
+
+    // Whether no byte is ready and nothing waits. Refusals: 19.
+    pub fn is_empty(self) -> Truth
+        ensures { λ r. ⌜ r ≡ toldOf self (emptyOf self) ⌝ }
+    {
+        if self.is_sound() {
+            let held = waiting::how_many(&self.waiting, self.span as usize);
+            Truth::Is(self.ready == 0 && held == 0)
+        } else {
+            Truth::Refused(Refusal::NotSound)
+        }
+    }
+
+    // The number before the first payload's. Refusals: 19.
+    pub fn init_seq_num(self) -> Number
+        ensures { λ r. ⌜ r ≡ numberedOf self (self .initial) ⌝ }
+    {
+        if self.is_sound() {
+            let initial = self.initial;
+            Number::Is(initial)
+        } else {
+            Number::Refused(Refusal::NotSound)
+        }
+    }
+
+    // Whether the payload of `number` is already there. Refusals: 19.
+    pub fn was_written(self, number: SeqNum) -> Truth
+        ensures { λ r. ⌜ r ≡ toldOf self (writtenBefore self number) ⌝ }
+    {
+        if self.is_sound() {
+            let initial = self.initial;
+            let offset = number.offset_from(initial);
+            Truth::Is(self.is_there(offset.0 as u32))
+        } else {
+            Truth::Refused(Refusal::NotSound)
+        }
+    }
+
+    // The last number of the payloads in order. Refusals: 19.
+    pub fn ack_num(self) -> Number
+        ensures { λ r. ⌜ r ≡ numberedOf self (ackOf self) ⌝ }
+    {
+        if self.is_sound() {
+            let initial = self.initial;
+            Number::Is(initial.plus((self.count % 65536) as u16))
+        } else {
+            Number::Refused(Refusal::NotSound)
+        }
+    }
+
+    // How many payloads are in order: document 01's c. Refusals: 19.
+    pub fn count(self) -> Count
+        ensures { λ r. ⌜ r ≡ countedOf self (self .count) ⌝ }
+    {
+        if self.is_sound() {
+            Count::Is(self.count as usize)
+        } else {
+            Count::Refused(Refusal::NotSound)
+        }
+    }
+
+    // How many bytes are ready. Refusals: 19.
+    pub fn ready(self) -> Count
+        ensures { λ r. ⌜ r ≡ countedOf self (self .ready) ⌝ }
+    {
+        if self.is_sound() {
+            Count::Is(self.ready as usize)
+        } else {
+            Count::Refused(Refusal::NotSound)
+        }
+    }
+
+    // How many payloads wait. Refusals: 19.
+    pub fn waiting(self) -> Count
+        ensures { λ r. ⌜ r ≡ countedOf self (howMany (tableOf self)) ⌝ }
+    {
+        if self.is_sound() {
+            Count::Is(waiting::how_many(&self.waiting, self.span as usize))
+        } else {
+            Count::Refused(Refusal::NotSound)
+        }
+    }
+
+    // How many bytes wait. Refusals: 19.
+    pub fn waiting_bytes(self) -> Count
+        ensures { λ r. ⌜ r ≡ countedOf self (bytesIn (tableOf self)) ⌝ }
+    {
+        if self.is_sound() {
+            Count::Is(waiting::bytes_in(&self.waiting, self.span as usize) as usize)
+        } else {
+            Count::Refused(Refusal::NotSound)
+        }
+    }
+
+    // Whether `offset` is at most the count, or waits.
+    fn is_there(self, offset: u32) -> bool
+        requires { ⌜ self .span ≤ 256 ⌝ }
+        ensures { λ r. ⌜ r ≡ thereOf (self .count) (tableOf self) offset ⌝ }
+    {
+        if offset <= self.count {
+            return true;
+        }
+        waiting::waits_at(&self.waiting, self.span as usize, self.count, offset)
+    }
+}
+
+// The answer 10.
+fn refused_new(initial: SeqNum) -> Created
+    ensures { λ r. ⌜ r ≡ noReceiverOf initial ⌝ }
+{
+    let state = ReceiveBuffer {
+        initial,
+        length: 0,
+        count: 0,
+        ready: 0,
+        span: 0,
+        waiting: [0u32; 256],
+    };
+    Created {
+        answer: Creation::Refused(Refusal::LengthOutOfRange),
+        state,
     }
 }

@@ -1,9 +1,10 @@
 // The table of waiting lengths. Place i stands for the offset i + 1 past the payloads in order; an
 // entry is 0 where nothing waits, and the payload's length plus 1 where one does.
 ghost use mathlib.Core.Path.{_≡_};
-ghost use Prim.Native.Nat.{_-_, _≤_, _<_, _^_};
+ghost use Prim.Native.Nat.{_+_, _-_, _≤_, _<_, _^_};
+ghost use mathlib.Core.Bool.{cond};
 ghost use lib.ListN.{take};
-ghost use Rattle.recv.specs.Table.{bytesIn};
+ghost use Rattle.recv.specs.Table.{waits, bytesIn, howMany, waitsAt};
 
 // The length of the payload that an entry stands for.
 fn length_of(entry: u32) -> u64
@@ -27,4 +28,44 @@ pub fn bytes_in(waiting: &[u32; 256], span: usize) -> u64
         i += 1;
     }
     sum
+}
+
+// 1 for an entry that waits, else 0.
+fn one_if_waits(entry: u32) -> usize
+    ensures { λ r. ⌜ (r ≡ cond (waits entry) 1 0) × (r ≤ 1) ⌝ }
+{
+    if entry == 0 {
+        return 0;
+    }
+    1
+}
+
+// How many payloads wait at the first `span` places.
+pub fn how_many(waiting: &[u32; 256], span: usize) -> usize
+    requires { ⌜ span ≤ 256 ⌝ }
+    ensures { λ r. ⌜ (r ≡ howMany (take span (now (waiting .entry)))) × (r ≤ 256) ⌝ }
+{
+    let mut sum: usize = 0;
+    let mut i: usize = 0;
+    while i < span {
+        sum += one_if_waits(waiting[i]);
+        i += 1;
+    }
+    sum
+}
+
+// Whether `offset` waits behind `count` payloads in order.
+pub fn waits_at(waiting: &[u32; 256], span: usize, count: u32, offset: u32) -> bool
+    requires { ⌜ span ≤ 256 ⌝ }
+    ensures { λ r. ⌜ r ≡ waitsAt count (take span (now (waiting .entry))) offset ⌝ }
+{
+    if offset <= count {
+        return false;
+    }
+    let place = (offset - count - 1) as usize;
+    if place < span {
+        waiting[place] != 0
+    } else {
+        false
+    }
 }

@@ -1,0 +1,26 @@
+-- Which case a test picks.
+use Prim.Native.Nat.{ℕ}
+use mathlib.Core.Path.{_≡_, refl}
+use mathlib.Core.Bool.{Bool, true, false, cond, _&&_}
+use native.Mathlib.Omega.{arith}
+
+module _ {A : Type 0} (x y : A) where
+  pub cond-true : (b : Bool) → b ≡ true → cond b x y ≡ x
+  cond-true true h = refl
+  cond-true false h = absurd (no h)
+    where
+      no : false ≡ true → ⊥
+      no e = let z : _≡_ {A = ℕ} 0 1 = cc in omega arith
+
+  pub cond-false : (b : Bool) → b ≡ false → cond b x y ≡ y
+  cond-false false h = refl
+  cond-false true h = absurd (no h)
+    where
+      no : true ≡ false → ⊥
+      no e = let z : _≡_ {A = ℕ} 0 1 = cc in omega arith
+
+pub and-true : (a b : Bool) → a ≡ true → a && b ≡ b
+and-true a b h = rw h
+
+pub and-false : (a b : Bool) → a ≡ false → a && b ≡ false
+and-false a b h = rw h
