@@ -1,4 +1,5 @@
 -- Laws about the definitions, by topic.
 pub mod Cases
+pub mod Moves
 pub mod Table
 pub mod State

@@ -2,6 +2,7 @@
 // the caller lends to every call (document 01, "Receiving").
 use packet::seq::SeqNum;
 
+mod bytes;
 mod waiting;
 
 ghost use mathlib.Core.Path.{_≡_};
