@@ -10,20 +10,36 @@ use Rattle.packet.specs.Decode.{decodeOf}
 use Rattle.packet.specs.Layout.{fieldsOf}
 use Rattle.packet.specs.Chain.{chainFrom}
 use Rattle.congestion.specs.Marked as Congestion
+use Rattle.recv.specs.Marked as Recv
 
--- Row i of the crate congestion.
-abbrev congestionCase : String → ℕ → Case
-congestionCase mark i = record { mark = mark; found = getD Congestion.foundOf i []; written = getD Congestion.writtenOf i [] }
+-- Row i of a crate's table of what was found and what is written.
+abbrev row : List (List ℕ) → List (List ℕ) → String → ℕ → Case
+row found written mark i = record { mark = mark; found = getD found i []; written = getD written i [] }
 
-abbrev pub congestion : List Case
-congestion = congestionCase "W1" 0 ∷ congestionCase "W2" 1 ∷ congestionCase "W3" 2 ∷ congestionCase "W4" 3 ∷ congestionCase "W5" 4 ∷ []
+abbrev pub congestion : String → ℕ → Case
+congestion = row Congestion.foundOf Congestion.writtenOf
+
+abbrev pub recv : String → ℕ → Case
+recv = row Recv.found Recv.written
 
 abbrev pub marked : List Case
-marked = Packet.cases ++ congestion
+marked =
+    Packet.cases
+    ++ congestion "W1" 0
+    ∷ congestion "W2" 1
+    ∷ congestion "W3" 2
+    ∷ congestion "W4" 3
+    ∷ congestion "W5" 4
+    ∷ recv "R1" 0
+    ∷ recv "R2" 1
+    ∷ []
 
 pub marked-hold : AllHold marked
 unfolding Packet.cases decodeOf fieldsOf chainFrom
-marked-hold = (refl, (refl, (refl, (refl, (refl, (row 0, (row 1, (row 2, (row 3, (row 4, tt))))))))))
+marked-hold = (refl, (refl, (refl, (refl, (refl, (w 0, (w 1, (w 2, (w 3, (w 4, (r 0, (r 1, tt))))))))))))
   where
-    row : (i : ℕ) → getD Congestion.foundOf i [] ≡ getD Congestion.writtenOf i []
-    row i = ap (λ (l : List (List ℕ)). getD l i []) Congestion.marked
+    w : (i : ℕ) → getD Congestion.foundOf i [] ≡ getD Congestion.writtenOf i []
+    w i = ap (λ (l : List (List ℕ)). getD l i []) Congestion.marked
+
+    r : (i : ℕ) → getD Recv.found i [] ≡ getD Recv.written i []
+    r i = ap (λ (l : List (List ℕ)). getD l i []) Recv.marked
