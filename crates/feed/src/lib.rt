@@ -21,6 +21,24 @@ pub struct Taken {
     pub feed: Feed,
 }
 
+// Whether what was taken is what was expected, and where the reading stands behind it.
+pub struct Held {
+    pub is_same: bool,
+    pub feed: Feed,
+}
+
+// A record that was compared: the answer that is expected, whether the library's is the same in every
+// field, and where the reading stands behind it.
+pub struct Record {
+    pub answer: u64,
+    pub is_same: bool,
+    pub feed: Feed,
+}
+
+pub fn both(a: bool, b: bool) -> bool {
+    if a { b } else { false }
+}
+
 // A number, with one more byte behind its last seven.
 pub fn appended(value: u64, byte: u8) -> u64
     ensures { λ r. ⌜ r ≡ value % 72057594037927936 * 256 + byte ⌝ }
@@ -93,6 +111,38 @@ impl Feed {
         Taken { value, feed }
     }
 
+    // Takes as many bytes as `expected` has, and holds them against it.
+    pub fn held(self, window: &mut [u8], expected: &[u8]) -> Held {
+        let mut feed = self;
+        let mut is_same = true;
+        let mut i = 0;
+        while i < expected.len() {
+            let next = feed.byte(window);
+            is_same = both(is_same, next.value == wide(expected[i]));
+            feed = next.feed;
+            i += 1;
+        }
+        Held { is_same, feed }
+    }
+
+    // Takes so many bytes and drops them.
+    pub fn skipped(self, window: &mut [u8], count: usize) -> Feed {
+        self.number(window, count).feed
+    }
+
+    // Takes a number of each of these widths, to the front of `out`.
+    pub fn numbers(self, window: &mut [u8], widths: &[u8], out: &mut [u64]) -> Feed {
+        let mut feed = self;
+        let mut i = 0;
+        while i < widths.len() {
+            let next = feed.number(window, wide(widths[i]) as usize);
+            put(out, i, next.value);
+            feed = next.feed;
+            i += 1;
+        }
+        feed
+    }
+
     // Takes so many bytes, or as many as `out` has if those are fewer, to the front of `out`.
     pub fn bytes(self, window: &mut [u8], out: &mut [u8], count: usize) -> Feed {
         let size = least(count, out.len());
@@ -106,6 +156,31 @@ impl Feed {
         }
         feed
     }
+}
+
+// Are the numbers the same?
+pub fn same_numbers(a: &[u64], b: &[u64]) -> bool {
+    if a.len() != b.len() {
+        return false;
+    }
+    let mut i = 0;
+    while i < a.len() {
+        if a[i] != b[i] {
+            return false;
+        }
+        i += 1;
+    }
+    true
+}
+
+fn put(out: &mut [u64], at: usize, value: u64) {
+    if at < out.len() {
+        out[at] = value;
+    }
+}
+
+fn wide(x: u8) -> u64 {
+    x as u64
 }
 
 fn least(a: usize, b: usize) -> usize
