@@ -1,0 +1,11 @@
+-- The port's reading of document 01 and BEP 29 on congestion.
+pub mod Settings
+pub mod Trip
+pub mod Window
+pub mod Numbers
+pub mod Delays
+pub mod Answer
+pub mod Controller
+pub mod Rust
+pub mod Laws
+pub mod Marked

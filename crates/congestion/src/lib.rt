@@ -1,0 +1,8 @@
+// The congestion controller: settings, window, round trip, timeout, delay samples.
+pub mod answer;
+pub mod controller;
+pub mod delays;
+pub mod numbers;
+pub mod settings;
+mod trip;
+mod window;
