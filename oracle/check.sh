@@ -8,8 +8,8 @@ if [ -f "$captures.dgrams" ]; then
     mkdir -p "$here/../target/oracle"
     sample=$here/../target/oracle/capture-sample
     python3 "$here/tshark.py" sample "$captures.dgrams" "$captures.tshark.tsv" "$sample.dgrams" "$sample.lines"
-    cmp "$sample.dgrams" "$here/data/capture-sample.dgrams"
-    cmp "$sample.lines" "$here/data/capture-sample.lines"
+    cmp "$sample.dgrams" "$here/../crates/inspect/data/capture-sample.dgrams"
+    cmp "$sample.lines" "$here/../crates/inspect/stdout"
 fi
 if [ ! -f "${UTP_RS_SRC:-$here/../../shared/docs/src}/src/packet.rs" ] || ! command -v rustc > /dev/null; then
     echo "check.sh: the Rust source or rustc is not at hand: nothing compared"
@@ -17,7 +17,7 @@ if [ ! -f "${UTP_RS_SRC:-$here/../../shared/docs/src}/src/packet.rs" ] || ! comm
 fi
 again=$here/../target/oracle/data
 sh "$here/make.sh" "$again"
-for file in "$again"/*; do
-    cmp "$file" "$here/data/$(basename "$file")"
+grep -v '^#' "$here/lists.txt" | while read -r list place; do
+    cmp "$again/$(basename "$place")" "$here/../$place"
 done
 echo "check.sh: every list made again is the stored one"

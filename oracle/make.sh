@@ -1,11 +1,11 @@
 #!/bin/sh
-# Builds the driver and makes every list again, into the folder given (default: oracle/data).
+# Builds the driver and makes every list again: each in its place (lists.txt), or all in the folder given.
 set -eu
 here=$(cd "$(dirname "$0")" && pwd)
 sh "$here/build.sh"
-to=${1:-$here/data}
-mkdir -p "$to"
-for list in decode encode recv congestion congestion-clock sent sent-long; do
-    "$here/../target/oracle/oracle" "$list" "$to/$list.bin"
+grep -v '^#' "$here/lists.txt" | while read -r list place; do
+    to=$here/../$place
+    [ $# -eq 0 ] || to=$1/$(basename "$place")
+    mkdir -p "$(dirname "$to")"
+    "$here/../target/oracle/oracle" "$list" "$to"
 done
-"$here/../target/oracle/oracle" departures "$to/departures.txt"

@@ -1,5 +1,5 @@
 #!/usr/bin/env python3
-"""Prints a list of data/ as text, a line a record, for looking up a case that a replay reports.
+"""Prints a list as text, a line a record, for looking up a case that a replay reports.
 
     show.py decode|encode|recv|congestion|sent FILE
 

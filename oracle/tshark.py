@@ -4,7 +4,7 @@
     tshark.py compare LINES TSV [DGRAMS]          LINES: what inspect printed, or - for standard input
     tshark.py counts DGRAMS                       document 01's answers over a flat file of datagrams, by number
     tshark.py sample DGRAMS TSV OUT.dgrams OUT.lines
-                                                  the sample in data/, and the lines inspect must print for it
+                                                  the sample of crates/inspect, and the lines it must print
 
 DGRAMS is flat: a 2-byte big-endian length and the bytes, over and over. TSV is tshark's, line k + 1 for datagram k.
 Where tshark declines a datagram (its columns are empty) it is no judge; with DGRAMS given, every line, those included, is
