@@ -13,7 +13,7 @@ failed=0
 
 # same NAME WANTED: what the case wrote, and what it must write
 same() {
-    if cmp -s "$room/wrote" "$2"; then echo "inspect.sh: $1: ok"; else echo "inspect.sh: $1: FAILED"; failed=1; fi
+    if cmp -s "$room/wrote" "$2"; then echo "inspect_test.sh: $1: ok"; else echo "inspect_test.sh: $1: FAILED"; failed=1; fi
 }
 
 "$inspect" < "$sample" > "$room/wrote"
@@ -51,8 +51,8 @@ same "8,192 lines" "$room/wanted"
 
 "$inspect" "$room/none" > "$room/wrote" 2> "$room/said"
 same "no such file: no line" /dev/null
-grep -q "none: No such file" "$room/said" || { echo "inspect.sh: no such file: no message"; failed=1; }
+grep -q "none: No such file" "$room/said" || { echo "inspect_test.sh: no such file: no message"; failed=1; }
 "$inspect" "$room" > "$room/wrote" 2> "$room/said"
 same "a folder: no line" /dev/null
-[ -s "$room/said" ] || { echo "inspect.sh: a folder: no message"; failed=1; }
+[ -s "$room/said" ] || { echo "inspect_test.sh: a folder: no message"; failed=1; }
 exit "$failed"
