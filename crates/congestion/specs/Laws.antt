@@ -1,0 +1,5 @@
+-- Laws about the definitions, by topic.
+pub mod Trip
+pub mod Window
+pub mod Numbers
+pub mod Delays

@@ -1,0 +1,7 @@
+-- The port's reading of document 01 and BEP 29 on congestion.
+pub mod Settings
+pub mod Trip
+pub mod Window
+pub mod Numbers
+pub mod Delays
+pub mod Laws
