@@ -7,3 +7,4 @@ pub mod Lost
 pub mod Answers
 pub mod State
 pub mod Marked
+pub mod Laws

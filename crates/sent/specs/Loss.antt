@@ -15,9 +15,12 @@ abbrev pub isUnacked : Packet → Bool
 isUnacked p = eqb (p .acked) 0
 
 -- How many of them are acknowledged.
+abbrev pub ackedOne : Packet → ℕ
+ackedOne p = cond (isUnacked p) 0 1
+
 unfoldable pub ackedCountOf : List Packet → ℕ
 ackedCountOf [] = 0
-ackedCountOf (p ∷ l) = cond (isUnacked p) 0 1 + ackedCountOf l
+ackedCountOf (p ∷ l) = ackedCountOf l + ackedOne p
 
 -- An unacknowledged packet with three or more acknowledged later ones is lost.
 abbrev pub isLostOf : Packet → ℕ → Bool

@@ -51,9 +51,12 @@ writtenOf s t =
 -- ---- the soundness test
 
 -- In flight is the sum of the first lengths of the unacknowledged packets.
+abbrev pub flyingOf : Packet → ℕ
+flyingOf p = cond (isUnacked p) (p .len) 0
+
 unfoldable pub inFlightOf : List Packet → ℕ
 inFlightOf [] = 0
-inFlightOf (p ∷ l) = cond (isUnacked p) (p .len) 0 + inFlightOf l
+inFlightOf (p ∷ l) = inFlightOf l + flyingOf p
 
 -- A kept packet: a type up to 4, marks that are 0 or 1, sent no later than the last accepted now, and marked as lost exactly when it is.
 abbrev pub packetSoundOf : ℕ → Packet → ℕ → Bool

@@ -2,6 +2,12 @@
 // first.
 use congestion::delays::Delays;
 use congestion::numbers::Numbers;
+ghost use mathlib.Core.Path.{_≡_};
+ghost use mathlib.Core.Bool.{cond};
+ghost use Prim.Native.Nat.{_≤_};
+ghost use lib.ListN.{take};
+ghost use Rattle.sent.specs.Loss.{isUnacked, isLostOf, ackedOne};
+ghost use Rattle.sent.specs.State.{stateSoundOf, packetSoundOf, packetsSoundOf, inFlightOf, flyingOf};
 
 // A packet that was sent. `kind` is the type's number; `acked`, `lost` and `resent` are 0 or 1.
 #[repr(C)]
@@ -26,4 +32,106 @@ pub struct SentPackets {
     pub numbers: Numbers,
     pub delays: Delays,
     pub packets: [Packet; 512],
+}
+
+impl Packet {
+    // Is it not acknowledged?
+    pub(crate) fn unacked(self) -> bool
+        ensures { λ r. ⌜ r ≡ isUnacked self ⌝ }
+    {
+        self.acked == 0
+    }
+
+    // What it adds to the number of acknowledged packets.
+    pub(crate) fn acked_one(self) -> u32
+        ensures { λ r. ⌜ r ≡ ackedOne self ⌝ }
+    {
+        if self.acked == 0 { 0 } else { 1 }
+    }
+
+    // What it adds to the bytes in flight.
+    fn flying(self) -> u32
+        ensures { λ r. ⌜ r ≡ flyingOf self ⌝ }
+    {
+        if self.acked == 0 { self.len } else { 0 }
+    }
+
+    // Is it lost, `later` of those behind it being acknowledged?
+    pub(crate) fn is_lost(self, later: u32) -> bool
+        ensures { λ r. ⌜ r ≡ isLostOf self later ⌝ }
+    {
+        (self.acked == 0) & (3 <= later)
+    }
+
+    // The mark that goes with this.
+    fn lost_mark(self, later: u32) -> u8
+        ensures { λ r. ⌜ r ≡ cond (isLostOf self later) 1 0 ⌝ }
+    {
+        if self.is_lost(later) { 1 } else { 0 }
+    }
+
+    // Does it pass the soundness test, `later` of those behind it being acknowledged?
+    fn sound(self, later: u32, last: u64) -> bool
+        ensures { λ r. ⌜ r ≡ packetSoundOf last self later ⌝ }
+    {
+        let mark = self.lost_mark(later);
+        (self.kind <= 4)
+            & (self.acked <= 1)
+            & (self.resent <= 1)
+            & (self.sent_at <= last)
+            & (self.lost == mark)
+    }
+}
+
+// What a walk over the kept packets finds.
+struct Walk {
+    fine: bool,
+    in_flight: u64,
+}
+
+// Do the kept packets pass the soundness test, and how many bytes are in flight? From the back, so
+// that the acknowledged ones behind each are known.
+fn walked(packets: [Packet; 512], live: u32, last: u64) -> Walk
+    requires { ⌜ live ≤ 512 ⌝ }
+    ensures { λ r. ⌜ (r .fine ≡ packetsSoundOf last (take live packets)) × (r .«in_flight» ≡ inFlightOf (take live packets)) ⌝ }
+{
+    let mut i = live as usize;
+    let mut fine = true;
+    let mut in_flight: u64 = 0;
+    let mut later: u32 = 0;
+    while 0 < i {
+        i -= 1;
+        let p = packets[i];
+        fine = fine & p.sound(later, last);
+        in_flight = in_flight + (p.flying() as u64);
+        later = later + p.acked_one();
+    }
+    Walk { fine, in_flight }
+}
+
+impl SentPackets {
+    // How many packets may be kept, and how many may be sent.
+    pub const PLACES: u32 = 512;
+    pub const MOST_SENT: u32 = 60000;
+
+    // Does it pass the soundness test?
+    pub fn sound(self) -> bool
+        ensures { λ r. ⌜ r ≡ stateSoundOf self ⌝ }
+    {
+        if SentPackets::PLACES < self.live {
+            return false;
+        }
+        let numbers = self.numbers;
+        let delays = self.delays;
+        let packets = self.packets;
+        let walk = walked(packets, self.live, numbers.last);
+        let first = packets[0];
+        (self.live <= self.count)
+            & (self.count <= SentPackets::MOST_SENT)
+            & numbers.sound()
+            & delays.sound(numbers.last)
+            & ((self.live == 0) | first.unacked())
+            & walk.fine
+            & (walk.in_flight == (numbers.in_flight as u64))
+    }
 }

@@ -1,0 +1,3 @@
+-- Laws about the definitions beside this file, a file for each topic.
+pub mod Kept
+pub mod Sound

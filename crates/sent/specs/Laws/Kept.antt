@@ -1,0 +1,40 @@
+-- The kept packets as a list and as the front of an array.
+use mathlib.Core.Path.{_≡_, refl, sym, ap, _∙_}
+use mathlib.Core.List.{List, [], _∷_, _++_}
+use Prim.Native.Nat.{ℕ, zero, suc, _+_, _-_, _≤_, _<_}
+use native.Mathlib.Omega.{arith}
+use lib.ListN.{length, take, drop, getD, set, length-take, length-drop, drop-of-length-le}
+use lib.Seq.{drop-cons, length-take-le, getD-take}
+use Rattle.sent.specs.declared.state.Packet.{Packet}
+use Rattle.sent.specs.Tracker.{noPacket}
+use Rattle.sent.specs.Loss.{isUnacked, ackedOne}
+use Rattle.sent.specs.State.{startsUnacked}
+use mathlib.Core.Bool.{Bool, true, false, _||_, cond}
+use lib.Dec.{eqb}
+use borrow.Author.Tests.{ne-eqb}
+
+pub kept-length : (a : List Packet) (n : ℕ) → n ≤ length a → length (take n a) ≡ n
+kept-length a n h = length-take-le n a h
+
+-- one more, in a walk from the back
+pub kept-behind : (a : List Packet) (n i : ℕ) → n ≤ length a → 0 < i → i ≤ n → drop (i - 1) (take n a) ≡ getD a (i - 1) noPacket ∷ drop i (take n a)
+kept-behind a n i h k m =
+    let e : suc (i - 1) ≡ i = omega arith in
+    drop-cons (take n a) (i - 1) noPacket (omega (arith, kept-length a n h))
+    ∙ ap (λ (p : Packet). p ∷ drop (suc (i - 1)) (take n a)) (getD-take n a (i - 1) noPacket (omega arith))
+    ∙ ap (λ (k : ℕ). getD a (i - 1) noPacket ∷ drop k (take n a)) e
+
+pub kept-end : (a : List Packet) (n : ℕ) → n ≤ length a → drop n (take n a) ≡ []
+kept-end a n h = drop-of-length-le (take n a) {i = n} (omega (arith, kept-length a n h))
+
+pub acked-one-small : (p : Packet) → ackedOne p ≤ 1
+acked-one-small p = by-test (isUnacked p)
+  where
+    by-test : (t : Bool) → cond t 0 1 ≤ 1
+    by-test true = omega arith
+    by-test false = omega arith
+
+pub starts-at-first : (a : List Packet) (n : ℕ) → n ≤ length a → startsUnacked (take n a) ≡ (eqb n 0 || isUnacked (getD a 0 noPacket))
+starts-at-first a zero h = refl
+starts-at-first [] (suc n) h = absurd (omega arith)
+starts-at-first (p ∷ a) (suc n) h = simp (ne-eqb (suc n) 0 (λ e. omega arith))
