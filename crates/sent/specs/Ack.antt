@@ -16,11 +16,22 @@ use Rattle.sent.specs.declared.state.Packet.{Packet}
 use Rattle.sent.specs.Loss.{isUnacked, lossMarkedOf, lossCountedOf}
 use Rattle.sent.specs.Tracker.{Tracker, offsetIn, isKept, packetAt, goneOf, clockedOf, clockAnswer}
 
--- ---- which packets an ack speaks of
+-- ---- the checks, in their order, with n packets sent
+
+-- 11: a delay above 2^50.
+abbrev pub delayAnswer : ℕ → Answer (Unit {0})
+delayAnswer delay = cond (leb delay latest) (done tt) (refused 11)
 
 -- 12 unless the offset is 1 to n.
-abbrev pub mayAck : Tracker → ℕ → Bool
-mayAck t o = leb 1 o && leb o (t .sent)
+abbrev pub mayAck : ℕ → ℕ → Bool
+mayAck n o = leb 1 o && leb o n
+
+-- 11, 5, 6, 8, then 12. An empty SACK means none.
+unfoldable pub ackCheck : ℕ → ℕ → ℕ → ℕ → ℕ → ℕ → Answer (Unit {0})
+ackCheck last n o bytes delay clock =
+    clockAnswer last clock then delayAnswer delay then maskAnswer bytes then cond (mayAck n o) (done tt) (refused 12)
+
+-- ---- which packets an ack speaks of
 
 -- Each set SACK bit upward, stopping past n: `left` bits from bit i on. Bit i means ack + 2 + i.
 unfoldable pub sackedFrom : List ℕ → ℕ → ℕ → ℕ → ℕ → List ℕ
@@ -105,16 +116,10 @@ releasedOf t =
 
 -- ---- all of it
 
--- 11: a delay above 2^50.
-abbrev pub delayAnswer : ℕ → Answer (Unit {0})
-delayAnswer delay = cond (leb delay latest) (done tt) (refused 11)
+unfoldable pub ackedByOf : Tracker → ℕ → List ℕ → ℕ → ℕ → Tracker
+ackedByOf t o mask delay clock = releasedOf (lossOf (allAcknowledgedOf delay clock t (heardOf (t .sent) o mask)))
 
--- 11, 5, 6, 8, then 12 unless the offset is 1 to n.
 unfoldable pub ackOf : Tracker → SeqNum → List ℕ → ℕ → ℕ → Answer Tracker
 ackOf t number mask delay clock =
-    clockAnswer t clock
-    then delayAnswer delay
-    then maskAnswer (length mask)
-    then cond (mayAck t (offsetIn t number))
-    (done (clockedOf (releasedOf (lossOf (allAcknowledgedOf delay clock t (heardOf (t .sent) (offsetIn t number) mask)))) clock))
-    (refused 12)
+    ackCheck (t .numbers .last) (t .sent) (offsetIn t number) (length mask) delay clock
+    then done (clockedOf (ackedByOf t (offsetIn t number) mask delay clock) clock)

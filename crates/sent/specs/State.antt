@@ -6,22 +6,18 @@ use lib.Dec.{leb, eqb}
 use lib.ListN.{length, take, drop, replicate}
 use Rattle.common.specs.Answer.{Answer, done, refused}
 use Rattle.packet.specs.declared.seq.SeqNum.{SeqNum}
-use Rattle.packet.specs.declared.seq.CircularRangeInclusive.{CircularRangeInclusive}
 use Rattle.packet.specs.declared.header.PacketType.{PacketType}
-use Rattle.packet.specs.Seq.{plusOf}
 use Rattle.congestion.specs.declared.settings.Settings.{Settings}
 use Rattle.congestion.specs.declared.numbers.Numbers.{Numbers}
 use Rattle.congestion.specs.Settings.{inRangeOf}
-use Rattle.congestion.specs.Numbers.{soundOf, newOf, freeOf, timedOutOf}
+use Rattle.congestion.specs.Numbers.{soundOf, newOf, timedOutOf}
 use Rattle.congestion.specs.Delays.{delaysSoundOf, noDelays}
 use Rattle.sent.specs.declared.state.Packet.{Packet}
 use Rattle.sent.specs.declared.state.SentPackets.{SentPackets}
-use Rattle.sent.specs.declared.answer.LostPacket.{LostPacket}
 use Rattle.sent.specs.Loss.{isUnacked, ackedCountOf, isLostOf}
-use Rattle.sent.specs.Tracker.{Tracker, places, mostSent, goneOf, noPacket}
+use Rattle.sent.specs.Tracker.{Tracker, places, mostSent, noPacket}
 use Rattle.sent.specs.Transmit.{transmitOf}
 use Rattle.sent.specs.Ack.{ackOf}
-use Rattle.sent.specs.Lost.{lostListOf, lostAtOf}
 
 -- ---- in the state
 
@@ -87,7 +83,7 @@ trackerSoundOf t =
     && packetsSoundOf (t .numbers .last) (t .packets)
     && eqb (inFlightOf (t .packets)) (t .numbers .«in_flight»)
 
-abbrev pub stateSoundOf : SentPackets → Bool
+unfoldable pub stateSoundOf : SentPackets → Bool
 stateSoundOf s = leb (s .live) places && trackerSoundOf (trackerOf s)
 
 -- ---- what the public functions answer: 19 for a state that is not sound, before everything
@@ -133,24 +129,6 @@ freshOf initial settings =
 
 abbrev pub newAnswer : SeqNum → Settings → Answer (Unit {0}) × SentPackets
 newAnswer initial settings = (cond (inRangeOf settings) (done tt) (refused 10), freshOf initial settings)
-
--- ---- what is read
-
--- The last of the acknowledged run, or 0 if none.
-abbrev pub ackNumOf : Tracker → SeqNum
-ackNumOf t = cond (eqb (goneOf t) 0) (record { 0 = 0 }) (plusOf (t .initial) (goneOf t))
-
-abbrev pub nextSeqNumOf : Tracker → SeqNum
-nextSeqNumOf t = plusOf (t .initial) (t .sent + 1)
-
--- From the initial number to the last sent.
-abbrev pub seqNumRangeOf : Tracker → CircularRangeInclusive
-seqNumRangeOf t = record { start = t .initial; end = plusOf (t .initial) (t .sent); exhausted = false }
-
--- Is one of the kept packets not acknowledged? The first is, where there is one.
-unfoldable pub hasUnacked : List Packet → Bool
-hasUnacked [] = false
-hasUnacked (p ∷ l) = cond (isUnacked p) true (hasUnacked l)
 
 abbrev pub readOf : {A : Type 0} → SentPackets → (Tracker → A) → Answer A
 readOf s f = whenStateSound s (done (f (trackerOf s)))

@@ -71,8 +71,8 @@ clockedOf t clock =
       delays = t .delays;
     }
 
--- ---- checks that transmit and ack share
+-- ---- a check that transmit and ack share
 
 -- 11: a time above 2^50, or now below the last accepted now.
-abbrev pub clockAnswer : Tracker → ℕ → Answer (Unit {0})
-clockAnswer t clock = cond (leb clock latest && leb (t .numbers .last) clock) (done tt) (refused 11)
+abbrev pub clockAnswer : ℕ → ℕ → Answer (Unit {0})
+clockAnswer last clock = cond (leb clock latest && leb last clock) (done tt) (refused 11)

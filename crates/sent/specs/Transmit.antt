@@ -8,13 +8,26 @@ use Rattle.common.specs.Answer.{Answer, done, refused, _then_}
 use Rattle.packet.specs.declared.seq.SeqNum.{SeqNum}
 use Rattle.packet.specs.declared.header.PacketType.{PacketType}
 use Rattle.packet.specs.Layout.{typeNumber}
+use Rattle.congestion.specs.declared.numbers.Numbers.{Numbers}
 use Rattle.congestion.specs.Numbers.{freeOf, transmittedOf}
 use Rattle.sent.specs.declared.state.Packet.{Packet}
 use Rattle.sent.specs.Tracker.{Tracker, places, mostSent, offsetIn, isKept, packetAt, withPacketAt, clockedOf, clockAnswer}
 
+-- ---- the checks, in their order, with n packets sent of which `kept` are kept
+
 -- Offset 0 or above n + 1 gives 12.
-abbrev pub mayTransmit : Tracker → ℕ → Bool
-mayTransmit t o = leb 1 o && leb o (t .sent + 1)
+abbrev pub mayTransmit : ℕ → ℕ → Bool
+mayTransmit n o = leb 1 o && leb o (n + 1)
+
+-- 15: 60,000 packets already sent. 13: longer than the free window. 14: all 512 places held.
+abbrev pub roomAnswer : Numbers → ℕ → ℕ → ℕ → Answer (Unit {0})
+roomAnswer numbers n kept len =
+    cond (leb mostSent n) (refused 15) (cond (ltb (freeOf numbers) len) (refused 13) (cond (leb places kept) (refused 14) (done tt)))
+
+-- 11; offset 0 or above n + 1 gives 12; up to n it is a retransmission, whatever its length; at n + 1 check 15, 13, 14.
+unfoldable pub transmitCheck : Numbers → ℕ → ℕ → ℕ → ℕ → ℕ → Answer (Unit {0})
+transmitCheck numbers n kept o len clock =
+    clockAnswer (numbers .last) clock then cond (mayTransmit n o) (cond (leb o n) (done tt) (roomAnswer numbers n kept len)) (refused 12)
 
 -- ---- a retransmission
 
@@ -59,21 +72,13 @@ recordedOf t p =
       delays = t .delays;
     }
 
--- 15: 60,000 packets already sent. 13: longer than the free window. 14: all 512 places held.
-abbrev pub roomAnswer : Tracker → ℕ → Answer (Unit {0})
-roomAnswer t len =
-    cond (leb mostSent (t .sent))
-    (refused 15)
-    (cond (ltb (freeOf (t .numbers)) len) (refused 13) (cond (leb places (length (t .packets))) (refused 14) (done tt)))
-
 -- ---- all of it
 
--- 11; offset 0 or above n + 1 gives 12; up to n it is a retransmission, whatever its length; at n + 1 check 15, 13, 14, then record.
+-- Up to n a retransmission, at n + 1 a packet to record.
+unfoldable pub sentOf : Tracker → ℕ → Packet → Tracker
+sentOf t o p = cond (leb o (t .sent)) (resentOf t o) (recordedOf t p)
+
 unfoldable pub transmitOf : Tracker → SeqNum → PacketType → ℕ → ℕ → ℕ → Answer Tracker
 transmitOf t number type tag len clock =
-    clockAnswer t clock
-    then cond (mayTransmit t (offsetIn t number))
-    (cond (leb (offsetIn t number) (t .sent))
-    (done (clockedOf (resentOf t (offsetIn t number)) clock))
-    (roomAnswer t len then done (clockedOf (recordedOf t (firstSent type tag len clock)) clock)))
-    (refused 12)
+    transmitCheck (t .numbers) (t .sent) (length (t .packets)) (offsetIn t number) len clock
+    then done (clockedOf (sentOf t (offsetIn t number) (firstSent type tag len clock)) clock)

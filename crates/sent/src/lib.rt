@@ -1,4 +1,6 @@
 // The tracker of sent packets: what was sent, what was acknowledged, what is lost, and the
 // controller's numbers that go with it.
 pub mod answer;
+pub mod read;
 pub mod state;
+pub mod transmit;

@@ -1,13 +1,19 @@
 // The tracker's state, a plain value that may be forged, and the soundness test that every call runs
 // first.
+use crate::answer::Outcome;
+use crate::answer::Reason;
+use crate::answer::Tracked;
 use congestion::delays::Delays;
 use congestion::numbers::Numbers;
+use congestion::settings::Settings;
+use packet::seq::SeqNum;
 ghost use mathlib.Core.Path.{_≡_};
 ghost use mathlib.Core.Bool.{cond};
 ghost use Prim.Native.Nat.{_≤_};
 ghost use lib.ListN.{take};
 ghost use Rattle.sent.specs.Loss.{isUnacked, isLostOf, ackedOne};
-ghost use Rattle.sent.specs.State.{stateSoundOf, packetSoundOf, packetsSoundOf, inFlightOf, flyingOf};
+ghost use Rattle.sent.specs.Answers.{told};
+ghost use Rattle.sent.specs.State.{newAnswer, timeoutAnswer, stateSoundOf, packetSoundOf, packetsSoundOf, inFlightOf, flyingOf};
 
 // A packet that was sent. `kind` is the type's number; `acked`, `lost` and `resent` are 0 or 1.
 #[repr(C)]
@@ -133,5 +139,57 @@ impl SentPackets {
             & ((self.live == 0) | first.unacked())
             & walk.fine
             & (walk.in_flight == (numbers.in_flight as u64))
+    }
+
+    // A fresh tracker, whose first packet has the number after `initial`. Refused with 10 where a
+    // setting is out of range; what is then handed back is not sound.
+    pub fn new(initial: SeqNum, settings: Settings) -> Tracked
+        ensures { λ r. ⌜ told r ≡ newAnswer initial settings ⌝ }
+    {
+        let state = SentPackets {
+            initial: initial.0,
+            count: 0,
+            live: 0,
+            numbers: Numbers::new(settings),
+            delays: Delays::none(),
+            packets: [Packet {
+                sent_at: 0,
+                tag: 0,
+                len: 0,
+                kind: 0,
+                acked: 0,
+                lost: 0,
+                resent: 0,
+            }; 512],
+        };
+        if settings.in_range() {
+            return Tracked {
+                answer: Outcome::Done,
+                state,
+            };
+        }
+        Tracked {
+            answer: Outcome::Refused(Reason::BadSetting),
+            state,
+        }
+    }
+
+    // A timeout event: the maximum falls to the minimum and the timeout is doubled. Refused with 19.
+    pub fn on_timeout(self) -> Tracked
+        ensures { λ r. ⌜ told r ≡ timeoutAnswer self ⌝ }
+    {
+        if !self.sound() {
+            return Tracked {
+                answer: Outcome::Refused(Reason::NotSound),
+                state: self,
+            };
+        }
+        let numbers = self.numbers;
+        let mut next = self;
+        next.numbers = numbers.timed_out();
+        Tracked {
+            answer: Outcome::Done,
+            state: next,
+        }
     }
 }

@@ -1,14 +1,18 @@
 -- The kept packets as a list and as the front of an array.
-use mathlib.Core.Path.{_≡_, refl, sym, ap, _∙_}
-use mathlib.Core.List.{List, [], _∷_, _++_}
+use mathlib.Core.Path.{_≡_, refl, sym, ap, ap₂, _∙_}
+use mathlib.Core.List.{List, [], _∷_, _++_, append-assoc}
 use Prim.Native.Nat.{ℕ, zero, suc, _+_, _-_, _≤_, _<_}
 use native.Mathlib.Omega.{arith}
-use lib.ListN.{length, take, drop, getD, set, length-take, length-drop, drop-of-length-le}
-use lib.Seq.{drop-cons, length-take-le, getD-take}
+use lib.ListN.{length, take, drop, getD, set, length-take, length-drop, drop-of-length-le, take-append-drop}
+use lib.Seq.{drop-cons, length-take-le, getD-take, take-set-lt, drop-set-lt, set-split}
 use Rattle.sent.specs.declared.state.Packet.{Packet}
 use Rattle.sent.specs.Tracker.{noPacket}
 use Rattle.sent.specs.Loss.{isUnacked, ackedOne}
-use Rattle.sent.specs.State.{startsUnacked}
+use Rattle.sent.specs.State.{startsUnacked, writtenOf}
+use Rattle.sent.specs.declared.state.SentPackets.{SentPackets}
+use Rattle.packet.specs.declared.seq.SeqNum.{SeqNum}
+use Rattle.congestion.specs.declared.numbers.Numbers.{Numbers}
+use Rattle.congestion.specs.declared.delays.Delays.{Delays}
 use mathlib.Core.Bool.{Bool, true, false, _||_, cond}
 use lib.Dec.{eqb}
 use borrow.Author.Tests.{ne-eqb}
@@ -38,3 +42,22 @@ pub starts-at-first : (a : List Packet) (n : ℕ) → n ≤ length a → startsU
 starts-at-first a zero h = refl
 starts-at-first [] (suc n) h = absurd (omega arith)
 starts-at-first (p ∷ a) (suc n) h = simp (ne-eqb (suc n) 0 (λ e. omega arith))
+
+-- Where the kept packets stay as they are, so does the array.
+pub written-kept : (s : SentPackets) (initial : SeqNum) (sent : ℕ) (numbers : Numbers) (delays : Delays) → s .live ≤ length (s .packets)
+    → writtenOf s (record { initial = initial; sent = sent; packets = take (s .live) (s .packets); numbers = numbers; delays = delays })
+    ≡ record { initial = initial .0; count = sent; live = s .live; numbers = numbers; delays = delays; packets = s .packets }
+written-kept s initial sent numbers delays h =
+    ap₂ whole (kept-length (s .packets) (s .live) h)
+    (ap (λ (n : ℕ). take (s .live) (s .packets) ++ drop n (s .packets)) (kept-length (s .packets) (s .live) h) ∙ take-append-drop (s .live) (s .packets))
+  where
+    whole : ℕ → List Packet → SentPackets
+    whole live packets = record { initial = initial .0; count = sent; live = live; numbers = numbers; delays = delays; packets = packets }
+
+-- A kept packet replaced, and one more kept, as stores to the array.
+pub written-set : (a : List Packet) (n i : ℕ) (p : Packet) → i < n → n ≤ length a → set (take n a) i p ++ drop n a ≡ set a i p
+written-set a n i p h k =
+    ap₂ (λ (x y : List Packet). x ++ y) (sym (take-set-lt n a i p h)) (sym (drop-set-lt n a i p h)) ∙ take-append-drop n (set a i p)
+
+pub written-more : (a : List Packet) (n : ℕ) (p : Packet) → n < length a → (take n a ++ p ∷ []) ++ drop (suc n) a ≡ set a n p
+written-more a n p h = append-assoc (take n a) (p ∷ []) (drop (suc n) a) ∙ sym (set-split a n p h)

@@ -6,6 +6,7 @@ use native.Mathlib.Omega.{arith}
 use lib.Dec.{eqb}
 use lib.ListN.{length, length-map, take}
 use borrow.Author.Tests.{lt-leb, le-leb}
+use Rattle.sent.specs.State.{stateSoundOf}
 use Rattle.sent.specs.Laws.Sound.{sound-by-parts}
 use borrow.Author.Needs.{needs}
 use Rattle.sent.proofs.state.SentPackets.sound.Statement.{statement}
@@ -21,6 +22,7 @@ full : (c : tie.Start) → length (c .args .self .packets) ≡ 512
 full c = sym (length-map (c .args .self .packets) _) ∙ c .good .0 .1 .1 .1 .1 .1 .1 .1 .0 .1 .0 .1
 
 returns : tie.Need-returns
+unfolding stateSoundOf
 returns c = simp (lt-leb _ _ (c .if1 .taken))
 
 walked-requires : tie.Need-walked-requires
