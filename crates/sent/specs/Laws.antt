@@ -1,3 +1,5 @@
 -- Laws about the definitions beside this file, a file for each topic.
+pub mod Checks
 pub mod Kept
 pub mod Sound
+pub mod Transmit

@@ -3,7 +3,8 @@ use mathlib.Core.Path.{_≡_, refl, sym, ap, ap₂, _∙_}
 use mathlib.Core.List.{List, [], _∷_, _++_, append-assoc}
 use Prim.Native.Nat.{ℕ, zero, suc, _+_, _-_, _≤_, _<_}
 use native.Mathlib.Omega.{arith}
-use lib.ListN.{length, take, drop, getD, set, length-take, length-drop, drop-of-length-le, take-append-drop}
+use lib.ListN.{length, take, drop, getD, set, length-take, length-drop, length-set, length-append, drop-of-length-le, take-append-drop}
+use native.Mathlib.Numerals.{add-one}
 use lib.Seq.{drop-cons, length-take-le, getD-take, take-set-lt, drop-set-lt, set-split}
 use Rattle.sent.specs.declared.state.Packet.{Packet}
 use Rattle.sent.specs.Tracker.{noPacket}
@@ -61,3 +62,25 @@ written-set a n i p h k =
 
 pub written-more : (a : List Packet) (n : ℕ) (p : Packet) → n < length a → (take n a ++ p ∷ []) ++ drop (suc n) a ≡ set a n p
 written-more a n p h = append-assoc (take n a) (p ∷ []) (drop (suc n) a) ∙ sym (set-split a n p h)
+
+module _ (s : SentPackets) (initial : SeqNum) (sent : ℕ) (numbers : Numbers) (delays : Delays) where
+  state-with : ℕ → List Packet → SentPackets
+  state-with live packets = record { initial = initial .0; count = sent; live = live; numbers = numbers; delays = delays; packets = packets }
+
+  pub written-at : (i : ℕ) (p : Packet) → i < s .live → s .live ≤ length (s .packets)
+      → writtenOf s (record { initial = initial; sent = sent; packets = set (take (s .live) (s .packets)) i p; numbers = numbers; delays = delays })
+      ≡ record { initial = initial .0; count = sent; live = s .live; numbers = numbers; delays = delays; packets = set (s .packets) i p }
+  unfolding state-with
+  written-at i p h k =
+      let len : length (set (take (s .live) (s .packets)) i p) ≡ s .live = length-set (take (s .live) (s .packets)) i p ∙ kept-length (s .packets) (s .live) k in
+      ap₂ state-with len
+      (ap (λ (n : ℕ). set (take (s .live) (s .packets)) i p ++ drop n (s .packets)) len ∙ written-set (s .packets) (s .live) i p h k)
+
+  pub written-behind : (p : Packet) → s .live < length (s .packets)
+      → writtenOf s (record { initial = initial; sent = sent; packets = take (s .live) (s .packets) ++ p ∷ []; numbers = numbers; delays = delays })
+      ≡ record { initial = initial .0; count = sent; live = s .live + 1; numbers = numbers; delays = delays; packets = set (s .packets) (s .live) p }
+  unfolding state-with
+  written-behind p h =
+      let len : length (take (s .live) (s .packets) ++ p ∷ []) ≡ s .live + 1 = length-append (take (s .live) (s .packets)) (p ∷ []) ∙ ap (λ (n : ℕ). n + 1) (kept-length (s .packets) (s .live) (omega arith)) in
+      ap₂ state-with len
+      (ap (λ (n : ℕ). (take (s .live) (s .packets) ++ p ∷ []) ++ drop n (s .packets)) (len ∙ add-one (s .live)) ∙ written-more (s .packets) (s .live) p h)
