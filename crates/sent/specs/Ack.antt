@@ -116,10 +116,11 @@ releasedOf t =
 
 -- ---- all of it
 
-unfoldable pub ackedByOf : Tracker → ℕ → List ℕ → ℕ → ℕ → Tracker
-ackedByOf t o mask delay clock = releasedOf (lossOf (allAcknowledgedOf delay clock t (heardOf (t .sent) o mask)))
+-- The packets as an ack leaves them, before the places of the acknowledged run are free.
+unfoldable pub markedOf : Tracker → ℕ → List ℕ → ℕ → ℕ → Tracker
+markedOf t o mask delay clock = lossOf (allAcknowledgedOf delay clock t (heardOf (t .sent) o mask))
 
 unfoldable pub ackOf : Tracker → SeqNum → List ℕ → ℕ → ℕ → Answer Tracker
 ackOf t number mask delay clock =
     ackCheck (t .numbers .last) (t .sent) (offsetIn t number) (length mask) delay clock
-    then done (clockedOf (ackedByOf t (offsetIn t number) mask delay clock) clock)
+    then done (clockedOf (releasedOf (markedOf t (offsetIn t number) mask delay clock)) clock)

@@ -3,3 +3,4 @@ pub mod Checks
 pub mod Kept
 pub mod Sound
 pub mod Transmit
+pub mod Hear

@@ -3,6 +3,7 @@ pub mod Tracker
 pub mod Loss
 pub mod Transmit
 pub mod Ack
+pub mod Hear
 pub mod Lost
 pub mod Read
 pub mod Answers

@@ -16,7 +16,7 @@ use Rattle.sent.specs.declared.answer.LostPacket.{LostPacket}
 use Rattle.sent.specs.Tracker.{Tracker}
 use Rattle.sent.specs.Loss.{ackedCountOf, lossMarkedOf, lossCountedOf}
 use Rattle.sent.specs.Transmit.{transmitCheck, sentOf, transmitOf}
-use Rattle.sent.specs.Ack.{ackCheck, ackedByOf, ackOf, sackedFrom, offsetsFrom, heardOf, newlyAckedOf, allAcknowledgedOf, fromUnacked}
+use Rattle.sent.specs.Ack.{ackCheck, markedOf, ackOf, sackedFrom, offsetsFrom, heardOf, newlyAckedOf, allAcknowledgedOf, fromUnacked}
 use Rattle.sent.specs.Lost.{lostFrom, insertOf, ascendingOf, lostListOf}
 use Rattle.common.specs.Case.{AllHold}
 use Rattle.packet.specs.Sack.{bitOf}
@@ -77,5 +77,5 @@ cases =
 
 -- They come out as the document writes them.
 pub cases-hold : AllHold cases
-unfolding cases ackedCountOf lossMarkedOf lossCountedOf transmitCheck sentOf transmitOf ackCheck ackedByOf ackOf sackedFrom offsetsFrom heardOf newlyAckedOf allAcknowledgedOf fromUnacked lostFrom insertOf ascendingOf lostListOf soundOf adjustedOf timedOf creditedOf remainingOf roomOf takeOf adjustmentOf nextMaximumOf movedOf
+unfolding cases ackedCountOf lossMarkedOf lossCountedOf transmitCheck sentOf transmitOf ackCheck markedOf ackOf sackedFrom offsetsFrom heardOf newlyAckedOf allAcknowledgedOf fromUnacked lostFrom insertOf ascendingOf lostListOf soundOf adjustedOf timedOf creditedOf remainingOf roomOf takeOf adjustmentOf nextMaximumOf movedOf
 cases-hold = (refl, (refl, (refl, tt)))

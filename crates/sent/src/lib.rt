@@ -1,5 +1,6 @@
 // The tracker of sent packets: what was sent, what was acknowledged, what is lost, and the
 // controller's numbers that go with it.
+pub mod ack;
 pub mod answer;
 pub mod read;
 pub mod state;

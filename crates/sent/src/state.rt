@@ -70,7 +70,7 @@ impl Packet {
     }
 
     // The mark that goes with this.
-    fn lost_mark(self, later: u32) -> u8
+    pub(crate) fn lost_mark(self, later: u32) -> u8
         ensures { λ r. ⌜ r ≡ cond (isLostOf self later) 1 0 ⌝ }
     {
         if self.is_lost(later) { 1 } else { 0 }
