@@ -4,3 +4,4 @@ pub mod Kept
 pub mod Sound
 pub mod Transmit
 pub mod Hear
+pub mod Sample
