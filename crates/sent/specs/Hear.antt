@@ -2,14 +2,14 @@
 -- Laws.Hear shows that they come to what document 01 says (Ack.antt).
 use Prim.Native.Nat.{ℕ, zero, suc, _+_, _-_}
 use mathlib.Core.Bool.{Bool, _&&_, cond}
-use mathlib.Core.List.{List, [], _∷_}
+use mathlib.Core.List.{List, [], _∷_, _++_}
 use lib.Dec.{leb, ltb, eqb}
-use lib.ListN.{getD, set}
+use lib.ListN.{getD, set, take, drop}
 use Rattle.packet.specs.Sack.{bitOf}
 use Rattle.sent.specs.declared.state.Packet.{Packet}
 use Rattle.sent.specs.declared.ack.Ack.{Ack}
 use Rattle.sent.specs.declared.ack.Heard.{Heard}
-use Rattle.sent.specs.Loss.{isUnacked}
+use Rattle.sent.specs.Loss.{isUnacked, lossMarkedOf, lossCountedOf}
 use Rattle.sent.specs.Tracker.{noPacket}
 use Rattle.sent.specs.Ack.{withAcked, creditedBy}
 
@@ -44,3 +44,20 @@ stepCount a bits = 1 + bits + (a .offset - 1 - a .gone)
 unfoldable pub stepsFrom : (ℕ → ℕ) → ℕ → ℕ → List ℕ
 stepsFrom f j zero = []
 stepsFrom f j (suc k) = f j ∷ stepsFrom f (j + 1) k
+
+-- Loss from place i on, with `live` packets kept: what stands before it is not looked at yet.
+unfoldable pub lossFromOf : Heard → ℕ → ℕ → Heard
+lossFromOf h live i =
+    record {
+      packets = take i (h .packets) ++ (lossMarkedOf (drop i (take live (h .packets))) ++ drop live (h .packets));
+      numbers = lossCountedOf (drop i (take live (h .packets))) (h .numbers);
+      news = h .news;
+    }
+
+unfoldable pub lossHeardOf : Heard → ℕ → Heard
+lossHeardOf h live =
+    record {
+      packets = lossMarkedOf (take live (h .packets)) ++ drop live (h .packets);
+      numbers = lossCountedOf (take live (h .packets)) (h .numbers);
+      news = h .news;
+    }

@@ -5,3 +5,5 @@ pub mod Sound
 pub mod Transmit
 pub mod Hear
 pub mod Sample
+pub mod Move
+pub mod Loss

@@ -15,9 +15,9 @@ use Rattle.congestion.specs.Delays.{delaysSoundOf, noDelays}
 use Rattle.sent.specs.declared.state.Packet.{Packet}
 use Rattle.sent.specs.declared.state.SentPackets.{SentPackets}
 use Rattle.sent.specs.Loss.{isUnacked, ackedCountOf, isLostOf}
-use Rattle.sent.specs.Tracker.{Tracker, places, mostSent, offsetIn, noPacket}
+use Rattle.sent.specs.Tracker.{Tracker, places, mostSent, offsetIn, clockedOf, noPacket}
 use Rattle.sent.specs.Transmit.{transmitOf}
-use Rattle.sent.specs.Ack.{markedOf, ackOf}
+use Rattle.sent.specs.Ack.{markedOf, releasedOf, ackOf}
 
 -- ---- in the state
 
@@ -99,14 +99,17 @@ unfoldable pub transmitAnswer : SentPackets → SeqNum → PacketType → ℕ �
 transmitAnswer s number type tag len clock = answeredOf s (whenStateSound s (transmitOf (trackerOf s) number type tag len clock))
 
 -- An ack marks the packets where they stand, and what is then kept is written over the front of that.
-abbrev pub answeredOver : SentPackets → SentPackets → Answer Tracker → Answer (Unit {0}) × SentPackets
-answeredOver s over (done t) = (done tt, writtenOf over t)
-answeredOver s over (refused n) = (refused n, s)
+unfoldable pub ackStateOf : SentPackets → ℕ → List ℕ → ℕ → ℕ → SentPackets
+ackStateOf s o mask delay clock =
+    writtenOf (writtenOf s (markedOf (trackerOf s) o mask delay clock)) (clockedOf (releasedOf (markedOf (trackerOf s) o mask delay clock)) clock)
+
+abbrev pub answeredAs : SentPackets → SentPackets → Answer Tracker → Answer (Unit {0}) × SentPackets
+answeredAs s next (done t) = (done tt, next)
+answeredAs s next (refused n) = (refused n, s)
 
 unfoldable pub ackAnswer : SentPackets → SeqNum → List ℕ → ℕ → ℕ → Answer (Unit {0}) × SentPackets
 ackAnswer s number mask delay clock =
-    answeredOver s (writtenOf s (markedOf (trackerOf s) (offsetIn (trackerOf s) number) mask delay clock))
-    (whenStateSound s (ackOf (trackerOf s) number mask delay clock))
+    answeredAs s (ackStateOf s (offsetIn (trackerOf s) number) mask delay clock) (whenStateSound s (ackOf (trackerOf s) number mask delay clock))
 
 -- A timeout event sets the maximum to the minimum and doubles the timeout. It does not set the last accepted now.
 abbrev pub timeoutOf : Tracker → Tracker

@@ -14,10 +14,10 @@ ghost use mathlib.Core.List.{_++_};
 ghost use Prim.Native.Nat.{_≤_, _<_, _-_, _+_};
 ghost use lib.ListN.{length, take, drop};
 ghost use Rattle.sent.specs.Answers.{outcome, told};
-ghost use Rattle.sent.specs.Loss.{isNewlyLostOf, withLost, lossMarkedOf, lossCountedOf};
+ghost use Rattle.sent.specs.Loss.{isNewlyLostOf, withLost};
 ghost use Rattle.sent.specs.Ack.{ackCheck, heardOf, withAcked, creditedBy, fromUnacked};
-ghost use Rattle.sent.specs.Hear.{keepsOf, heardAt, stepCount, allHeardOf};
-ghost use Rattle.sent.specs.State.{stateSoundOf, ackAnswer};
+ghost use Rattle.sent.specs.Hear.{keepsOf, heardAt, stepCount, allHeardOf, lossHeardOf};
+ghost use Rattle.sent.specs.State.{stateSoundOf, ackStateOf, ackAnswer};
 
 // The checks of an ack, in their order: 11, 5, 6, 8, 12.
 fn ack_check(last: u64, count: u32, offset: u32, bytes: usize, delay: u64, clock: u64) -> Outcome
@@ -179,4 +179,130 @@ fn hear(start: Heard, ack: Ack, sack: &[u8]) -> Heard
         heard.news = 1;
     }
     heard
+}
+
+// Loss, after the acknowledgements: each packet that is newly lost is marked and counted once. From
+// the back, so that the acknowledged ones behind each are known.
+fn lose(heard: Heard, live: u32) -> Heard
+    requires { ⌜ live ≤ 512 ⌝ }
+    ensures { λ r. ⌜ r ≡ lossHeardOf heard live ⌝ }
+{
+    let mut next = heard;
+    let mut later: u32 = 0;
+    let mut i = live as usize;
+    while 0 < i {
+        i -= 1;
+        let p = next.packets[i];
+        if !p.is_newly_lost(later) {
+            later += p.acked_one();
+            continue;
+        }
+        let numbers = next.numbers;
+        next.packets[i] = p.lost_now();
+        next.numbers = numbers.lost();
+    }
+    next
+}
+
+// How many packets at the front are acknowledged.
+fn acked_run(packets: [Packet; 512], live: u32) -> u32
+    requires { ⌜ live ≤ 512 ⌝ }
+    ensures { λ r. ⌜ (fromUnacked (take live packets) ≡ drop r (take live packets)) × (r ≤ live) ⌝ }
+{
+    let mut run: u32 = 0;
+    while run < live {
+        let i = run as usize;
+        let p = packets[i];
+        if p.unacked() {
+            return run;
+        }
+        run += 1;
+    }
+    run
+}
+
+// The `left` packets from `first` on, moved down to the front.
+fn moved_down(packets: [Packet; 512], first: u32, left: u32) -> [Packet; 512]
+    requires { ⌜ first + left ≤ 512 ⌝ }
+    ensures { λ r. ⌜ r ≡ take left (drop first packets) ++ drop left packets ⌝ }
+{
+    let mut next = packets;
+    let from = first as usize;
+    let end = left as usize;
+    let mut i: usize = 0;
+    while i < end {
+        let p = next[from + i];
+        next[i] = p;
+        i += 1;
+    }
+    next
+}
+
+impl SentPackets {
+    // What an ack that passed its checks leaves. All packets that it newly acknowledges bring the same
+    // sample, which is taken once.
+    fn acknowledged(self, offset: u32, sack: &[u8], delay: u64, clock: u64) -> SentPackets
+        requires { ⌜ (stateSoundOf self ≡ true) × (1 ≤ offset) × (offset ≤ self .count) × (length (now sack) ≤ 252) ⌝ }
+        ensures { λ r. ⌜ r ≡ ackStateOf self offset (now (sack .entry)) delay clock ⌝ }
+    {
+        let numbers = self.numbers;
+        let delays = self.delays;
+        let packets = self.packets;
+        let live = self.live;
+        let taken = delays.take(delay, clock, numbers.delay_window);
+        let ack = Ack {
+            offset,
+            gone: self.count - live,
+            count: self.count,
+            base: taken.base(),
+            delay,
+            clock,
+        };
+        let start = Heard {
+            packets,
+            numbers,
+            news: 0,
+        };
+        let heard = hear(start, ack, sack);
+        let mut next = self;
+        if heard.news == 0 {
+            next.numbers = numbers.accepted(clock);
+            return next;
+        }
+        let marked = lose(heard, live);
+        let marked_packets = marked.packets;
+        let marked_numbers = marked.numbers;
+        let run = acked_run(marked_packets, live);
+        let kept = moved_down(marked_packets, run, live - run);
+        next.live = live - run;
+        next.numbers = marked_numbers.accepted(clock);
+        next.delays = taken;
+        next.packets = kept;
+        next
+    }
+
+    // An ack arrives. An empty SACK means none. Refused with 19, 11, 5, 6, 8, 12, in this order.
+    pub fn on_ack(self, number: SeqNum, sack: &[u8], delay: u64, clock: u64) -> Tracked
+        ensures { λ r. ⌜ told r ≡ ackAnswer self number (now (sack .entry)) delay clock ⌝ }
+    {
+        if !self.sound() {
+            return Tracked {
+                answer: Outcome::Refused(Reason::NotSound),
+                state: self,
+            };
+        }
+        let last = self.numbers.last;
+        let offset = number.offset_from(SeqNum(self.initial)).0 as u32;
+        let check = ack_check(last, self.count, offset, sack.len(), delay, clock);
+        if let Outcome::Refused(reason) = check {
+            return Tracked {
+                answer: Outcome::Refused(reason),
+                state: self,
+            };
+        }
+        Tracked {
+            answer: Outcome::Done,
+            state: self.acknowledged(offset, sack, delay, clock),
+        }
+    }
 }
