@@ -7,3 +7,5 @@ pub mod Hear
 pub mod Sample
 pub mod Move
 pub mod Loss
+pub mod Acknowledge
+pub mod AckState

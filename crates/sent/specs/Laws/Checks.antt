@@ -5,7 +5,8 @@ use Prim.Native.Nat.{ℕ}
 use native.Mathlib.Omega.{arith}
 use Rattle.common.specs.Answer.{Answer, done, refused, _then_}
 
-never : {A : Type 0} (n : ℕ) (v : A) {B : Type 0} → _≡_ {A = Answer A} (refused n) (done v) → B
+-- A refusal is not done.
+pub never : {A : Type 0} (n : ℕ) (v : A) {B : Type 0} → _≡_ {A = Answer A} (refused n) (done v) → B
 never n v e = let z : _≡_ {A = ℕ} 0 1 = cc in absurd (omega arith)
 
 pub then-done : {A B : Type 0} (a : Answer A) (b : Answer B) (v : B) → (a then b) ≡ done v → b ≡ done v
