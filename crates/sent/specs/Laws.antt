@@ -9,3 +9,5 @@ pub mod Move
 pub mod Loss
 pub mod Acknowledge
 pub mod AckState
+pub mod Lost
+pub mod LostState

@@ -1,8 +1,9 @@
 -- The lost list (document 01, "Sent packets"). Definitions only.
-use Prim.Native.Nat.{ℕ, _+_}
+use Prim.Native.Nat.{ℕ, _+_, _-_, _^_, min}
 use mathlib.Core.Bool.{Bool, cond}
 use mathlib.Core.List.{List, [], _∷_, _++_}
-use lib.Dec.{leb, eqb}
+use lib.Dec.{leb, ltb, eqb}
+use lib.Seq.{slice}
 use lib.ListN.{length, getD}
 use Rattle.common.specs.Answer.{Answer, done, refused}
 use Rattle.packet.specs.declared.seq.SeqNum.{SeqNum}
@@ -39,3 +40,25 @@ noLost = lostPacketOf (record { 0 = 0 }) 0 noPacket
 -- Read by position from 0; a position at or past the count gives 12.
 abbrev pub lostAtOf : Tracker → ℕ → Answer LostPacket
 lostAtOf t k = cond (leb (length (lostListOf t)) k) (refused 12) (done (getD (lostListOf t) k noLost))
+
+-- ---- the same in places of the array, for the functions that do a part of the work
+
+abbrev pub lostOne : Packet → ℕ
+lostOne p = cond (eqb (p .lost) 0) 0 1
+
+unfoldable pub lostCountOf : List Packet → ℕ
+lostCountOf [] = 0
+lostCountOf (p ∷ l) = lostOne p + lostCountOf l
+
+-- The index of the k-th lost packet, or past the end.
+unfoldable pub nthLost : List Packet → ℕ → ℕ
+nthLost [] k = 0
+nthLost (p ∷ l) k = cond (eqb (p .lost) 0) (1 + nthLost l k) (cond (eqb k 0) 0 (1 + nthLost l (k - 1)))
+
+-- The first place whose number is past the wrap.
+abbrev pub wrapPlace : ℕ → ℕ → ℕ → ℕ
+wrapPlace initial gone live = min live (2 ^ 16 - (initial + gone + 1))
+
+abbrev pub lostPlaceOf : List Packet → ℕ → ℕ → ℕ → ℕ → ℕ
+lostPlaceOf packets wrap live wrapped k =
+    cond (ltb k wrapped) (wrap + nthLost (slice wrap live packets) k) (nthLost (slice 0 wrap packets) (k - wrapped))

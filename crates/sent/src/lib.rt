@@ -2,6 +2,7 @@
 // controller's numbers that go with it.
 pub mod ack;
 pub mod answer;
+pub mod lost;
 pub mod read;
 pub mod state;
 pub mod transmit;
