@@ -129,13 +129,13 @@ module _ (s : SentPackets) (full : length (s .packets) ≡ places) (e : stateSou
         (take-at (drop run m) (drop (s .live) (s .packets)) (s .live - run) (sym (ap length left-is) ∙ left-length) ∙ sym left-is)
 
     pub loud : record {
-          initial = s .initial;
-          count = s .count;
-          live = s .live - run;
-          numbers = acceptedOf (lossHeardOf heardOn (s .live) .numbers) clock;
-          delays = taken;
-          packets = kept;
-        }
+      initial = s .initial;
+      count = s .count;
+      live = s .live - run;
+      numbers = acceptedOf (lossHeardOf heardOn (s .live) .numbers) clock;
+      delays = taken;
+      packets = kept;
+    }
         ≡ ackStateOf s o mask delay clock
     unfolding ackStateOf lossHeardOf m
     loud =

@@ -144,7 +144,6 @@ module _ (initial : SeqNum) where
 
 -- ---- the order
 
-
 -- numbers that rise, from low on
 abbrev pub Rising : ℕ → List LostPacket → Type 0
 Rising low [] = Unit {0}

@@ -66,10 +66,12 @@ loop-less c = omega arith
 
 loop-again : tie.Need-loop-again Inv-loop μ-loop
 loop-again c = let at = c .before .before .before .before in
-    let l = take (c .before .before .before .before .before .args .live) (c .before .before .before .before .before .args .t1) in
-    (at .loop .inv .0
-    ∙ run-goes-on l (at .loop .run) (omega (arith, listed (c .before .before .before .before .before))) (read (c .before .before .before) ∙ sym (c .before .unacked .ensures) ∙ c .if1 .left)
-    ∙ ap (λ (n : ℕ). fromUnacked (drop n l)) (sym (add-one (at .loop .run))), omega arith)
+    let l = take (c .before .before .before .before .before .args .live) (c .before .before .before .before .before .args .t1) in (
+      at .loop .inv .0
+          ∙ run-goes-on l (at .loop .run) (omega (arith, listed (c .before .before .before .before .before))) (read (c .before .before .before) ∙ sym (c .before .unacked .ensures) ∙ c .if1 .left)
+          ∙ ap (λ (n : ℕ). fromUnacked (drop n l)) (sym (add-one (at .loop .run))),
+      omega arith,
+    )
 
 returns-2 : tie.Need-returns-2 Inv-loop μ-loop
 unfolding fromUnacked

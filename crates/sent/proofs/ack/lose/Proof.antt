@@ -90,7 +90,7 @@ loop-again c = let at = c .before .before .before .before .before in
     let more = c .acked-one .ensures ∙ one in
     let small = acked-one-small (getD (a .heard .packets) (at .loop .i - 1) noPacket) in (
       at .loop .inv .0
-      ∙ loss-same (a .heard) (a .live) (few (c .before .before .before .before .before .before)) (at .loop .i) (omega arith) (omega arith) (tested (c .before .before) ∙ not-true _ (c .before .if1 .taken)),
+          ∙ loss-same (a .heard) (a .live) (few (c .before .before .before .before .before .before)) (at .loop .i) (omega arith) (omega arith) (tested (c .before .before) ∙ not-true _ (c .before .if1 .taken)),
       ap₂ (λ (x y : ℕ). x + y) (at .loop .inv .1) more ∙ sym (count-behind (a .heard) (a .live) (few (c .before .before .before .before .before .before)) (at .loop .i) (omega arith) (omega arith)),
       omega arith,
       omega (arith, more),
@@ -119,9 +119,9 @@ loop-again-2 c = let at = c .before .before .before .before .before .before .bef
     let none = newly-lost-unacked (getD (a .heard .packets) (at .loop .i - 1) noPacket) (ackedCountOf (drop (at .loop .i) (take (a .live) (a .heard .packets)))) new in
     let count = count-behind (a .heard) (a .live) (few (c .before .before .before .before .before .before .before .before)) (at .loop .i) (omega arith) (omega arith) in (
       stored-is (at .loop .next) (lossFromOf (a .heard) (a .live) (at .loop .i)) (at .loop .i - 1) (c .before .lost-now .result) (c .lost .result) (at .loop .inv .0)
-      ∙ loss-new (a .heard) (a .live) (few (c .before .before .before .before .before .before .before .before)) (at .loop .i) (omega arith) (omega arith) (c .before .lost-now .result) (c .lost .result) new
-      (c .before .lost-now .ensures ∙ ap (λ (q : Packet). withLost q 1) (read (c .before .before .before .before .before .before)))
-      (c .lost .ensures ∙ ap (λ (h : Heard). whenSound (h .numbers) (lostOf (h .numbers))) (at .loop .inv .0)),
+          ∙ loss-new (a .heard) (a .live) (few (c .before .before .before .before .before .before .before .before)) (at .loop .i) (omega arith) (omega arith) (c .before .lost-now .result) (c .lost .result) new
+          (c .before .lost-now .ensures ∙ ap (λ (q : Packet). withLost q 1) (read (c .before .before .before .before .before .before)))
+          (c .lost .ensures ∙ ap (λ (h : Heard). whenSound (h .numbers) (lostOf (h .numbers))) (at .loop .inv .0)),
       omega (arith, at .loop .inv .1, none, count),
       omega arith,
       omega arith,

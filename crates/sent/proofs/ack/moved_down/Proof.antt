@@ -54,7 +54,7 @@ loop-again : tie.Need-loop-again Inv-loop μ-loop
 loop-again c = let at = c .before .before in
     let a = c .before .before .before .args in (
       ap (λ (m : List Packet). set m (at .loop .i) (getD m (a .first + at .loop .i) noPacket)) (at .loop .inv .0)
-      ∙ moved-one (a .packets) (a .first) (at .loop .i) noPacket (omega (arith, full (c .before .before .before))),
+          ∙ moved-one (a .packets) (a .first) (at .loop .i) noPacket (omega (arith, full (c .before .before .before))),
       omega arith,
     )
 

@@ -52,7 +52,7 @@ loop-again c = let at = c .before .before .before in
     let small = lost-one-small (getD (a .t1) (at .loop .i) noPacket) in
     let e = c .lost-one .ensures in (
       ap (λ (n : ℕ). at .loop .count + n + lostCountOf (slice (at .loop .i + 1) (a .to) (a .t1))) e
-      ∙ count-next (a .t1) (a .to) (omega (arith, full (c .before .before .before .before), c .before .before .before .before .pre .1)) (at .loop .i) (omega arith) (at .loop .count) ∙ at .loop .inv .0,
+          ∙ count-next (a .t1) (a .to) (omega (arith, full (c .before .before .before .before), c .before .before .before .before .pre .1)) (at .loop .i) (omega arith) (at .loop .count) ∙ at .loop .inv .0,
       omega arith,
       omega arith,
       omega arith,
