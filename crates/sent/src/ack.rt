@@ -5,6 +5,7 @@ use crate::answer::Tracked;
 use crate::state::Packet;
 use crate::state::SentPackets;
 use congestion::numbers::Numbers;
+use congestion::settings::Settings;
 use packet::sack;
 use packet::sack::Checked;
 use packet::seq::SeqNum;
@@ -23,13 +24,13 @@ ghost use Rattle.sent.specs.State.{stateSoundOf, ackStateOf, ackAnswer};
 fn ack_check(last: u64, count: u32, offset: u32, bytes: usize, delay: u64, clock: u64) -> Outcome
     ensures { λ r. ⌜ outcome r ≡ ackCheck last count offset bytes delay clock ⌝ }
 {
-    if Numbers::LATEST < clock {
+    if Settings::LATEST < clock {
         return Outcome::Refused(Reason::BadTime);
     }
     if clock < last {
         return Outcome::Refused(Reason::BadTime);
     }
-    if Numbers::LATEST < delay {
+    if Settings::LATEST < delay {
         return Outcome::Refused(Reason::BadTime);
     }
     let checked = sack::check(bytes);

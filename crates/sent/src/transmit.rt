@@ -5,6 +5,7 @@ use crate::answer::Tracked;
 use crate::state::Packet;
 use crate::state::SentPackets;
 use congestion::numbers::Numbers;
+use congestion::settings::Settings;
 use packet::header::PacketType;
 use packet::seq::SeqNum;
 ghost use mathlib.Core.Path.{_≡_};
@@ -27,7 +28,7 @@ fn transmit_check(
     requires { ⌜ count ≤ 60000 ⌝ }
     ensures { λ r. ⌜ outcome r ≡ transmitCheck numbers count live offset len clock ⌝ }
 {
-    if Numbers::LATEST < clock {
+    if Settings::LATEST < clock {
         return Outcome::Refused(Reason::BadTime);
     }
     if clock < numbers.last {
