@@ -37,7 +37,9 @@ unfolding Packet.cases decodeOf fieldsOf chainFrom
 packets-hold = (refl, (refl, (refl, (refl, (refl, tt)))))
 
 pub marked-hold : AllHold marked
-marked-hold = all-append Packet.cases _ packets-hold (all-append window _ (w 0, (w 1, (w 2, (w 3, (w 4, tt))))) (all-append Sent.cases _ Sent.cases-hold (r 0, (r 1, tt))))
+marked-hold =
+    all-append Packet.cases (window ++ (Sent.cases ++ receiving)) packets-hold
+    (all-append window (Sent.cases ++ receiving) (w 0, (w 1, (w 2, (w 3, (w 4, tt))))) (all-append Sent.cases receiving Sent.cases-hold (r 0, (r 1, tt))))
   where
     w : (i : ℕ) → getD Congestion.foundOf i [] ≡ getD Congestion.writtenOf i []
     w i = ap (λ (l : List (List ℕ)). getD l i []) Congestion.marked
