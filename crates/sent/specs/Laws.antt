@@ -12,3 +12,4 @@ pub mod Acknowledge
 pub mod AckState
 pub mod Lost
 pub mod LostState
+pub mod Packets
