@@ -13,3 +13,4 @@ pub mod AckState
 pub mod Lost
 pub mod LostState
 pub mod Packets
+pub mod Keeps
