@@ -14,3 +14,4 @@ pub mod Lost
 pub mod LostState
 pub mod Packets
 pub mod Keeps
+pub mod Reached
