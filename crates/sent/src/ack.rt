@@ -115,13 +115,7 @@ impl Ack {
         ensures { λ r. ⌜ r ≡ creditedBy (self .base) (self .delay) (self .clock) packet numbers ⌝ }
     {
         let trip = self.round_trip(packet);
-        numbers.acked(
-            self.base,
-            self.delay,
-            packet.len,
-            packet.resent == 0,
-            trip,
-        )
+        numbers.acked(self.base, self.delay, packet.len, packet.resent == 0, trip)
     }
 
     // The offset that step `j` speaks of, or 0 where it speaks of none: the number itself, each SACK

@@ -118,6 +118,7 @@ fn walked(packets: [Packet; 512], live: u32, last: u64) -> Walk
 impl SentPackets {
     // How many packets may be kept, and how many may be sent.
     pub const PLACES: u32 = 512;
+
     pub const MOST_SENT: u32 = 60000;
 
     // Does it pass the soundness test?

@@ -1,11 +1,11 @@
 -- Every call keeps the tracker sound.
 use mathlib.Core.Path.{_≡_, refl, sym, ap, ap₂, _∙_, subst, subst⁻¹}
 use mathlib.Core.Bool.{Bool, true, false, _&&_, cond}
-use mathlib.Core.List.{List, [], _∷_, _++_}
-use Prim.Native.Nat.{ℕ, zero, suc, _+_, _-_, _≤_, _<_}
+use mathlib.Core.List.{List, [], _∷_}
+use Prim.Native.Nat.{ℕ, _+_, _-_, _≤_, _<_}
 use native.Mathlib.Omega.{arith}
 use lib.Dec.{leb, ltb, eqb}
-use lib.ListN.{length, getD, set, length-set, length-append}
+use lib.ListN.{length, set, length-set, length-append}
 use borrow.Author.Tests.{le-leb, leb-true, leb-false, ltb-true, ltb-false}
 use Rattle.common.specs.Answer.{Answer, done, refused, _then_}
 use Rattle.packet.specs.declared.seq.SeqNum.{SeqNum}
@@ -13,25 +13,23 @@ use Rattle.packet.specs.declared.header.PacketType.{PacketType}
 use Rattle.packet.specs.declared.header.PacketType.the-variants.{Data, Fin, State, Reset, Syn}
 use Rattle.packet.specs.Layout.{typeNumber}
 use Rattle.packet.specs.Sack.{maskAnswer}
-use Rattle.congestion.specs.declared.settings.Settings.{Settings}
 use Rattle.congestion.specs.declared.numbers.Numbers.{Numbers}
-use Rattle.congestion.specs.declared.delays.Delays.{Delays}
-use Rattle.congestion.specs.Settings.{latest, inRangeOf}
-use Rattle.congestion.specs.Numbers.{soundOf, whenSound, freeOf, sentOf, transmittedOf, acceptedOf, creditedOf, ackedOf, lostOf, timedOutOf, startOf, newOf}
-use Rattle.congestion.specs.Delays.{takenOf, delaysSoundOf, noDelays, listOf, baseOf}
-use Rattle.congestion.specs.Laws.Numbers.{both, and-of, Sound, sound-facts, sound-from, accepted-sound, sent-sound, credited-sound, credited-in-flight, lost-sound, timed-out-sound, settings-facts, start-sound}
+use Rattle.congestion.specs.Settings.{latest}
+use Rattle.congestion.specs.Numbers.{soundOf, whenSound, freeOf, sentOf, transmittedOf, creditedOf, ackedOf, lostOf}
+use Rattle.congestion.specs.Delays.{delaysSoundOf, listOf, baseOf}
+use Rattle.congestion.specs.Laws.Numbers.{both, Sound, sound-facts, sound-from, accepted-sound, sent-sound, credited-sound, credited-in-flight, lost-sound, timed-out-sound}
 use Rattle.congestion.specs.Laws.Samples.{later-sound, taken-sound}
 use Rattle.sent.specs.declared.state.Packet.{Packet}
 use Rattle.sent.specs.Loss.{isUnacked, ackedCountOf, isNewlyLostOf, lossMarkedOf, lossCountedOf}
-use Rattle.sent.specs.Tracker.{Tracker, places, mostSent, offsetIn, goneOf, isKept, noPacket, packetAt, withPacketAt, clockedOf, clockAnswer}
-use Rattle.sent.specs.Transmit.{mayTransmit, roomAnswer, transmitCheck, withResent, resentOf, firstSent, recordedOf, transmitOf} 
+use Rattle.sent.specs.Tracker.{Tracker, places, mostSent, offsetIn, goneOf, isKept, packetAt, withPacketAt, clockedOf, clockAnswer}
+use Rattle.sent.specs.Transmit.{mayTransmit, roomAnswer, transmitCheck, withResent, resentOf, firstSent, recordedOf, transmitOf}
 use Rattle.sent.specs.Transmit as Transmit
-use Rattle.sent.specs.Ack.{delayAnswer, mayAck, ackCheck, heardOf, withAcked, creditedBy, sampledOf, newlyAckedOf, acknowledgedOf, allAcknowledgedOf, lossOf, fromUnacked, releasedOf, markedOf, ackOf}
-use Rattle.sent.specs.State.{inFlightOf, packetSoundOf, packetsSoundOf, startsUnacked, timeoutOf}
+use Rattle.sent.specs.Ack.{delayAnswer, mayAck, ackCheck, heardOf, withAcked, sampledOf, newlyAckedOf, acknowledgedOf, allAcknowledgedOf, lossOf, releasedOf, markedOf, ackOf}
+use Rattle.sent.specs.State.{inFlightOf, timeoutOf}
 use Rattle.sent.specs.Laws.Checks.{then-done, held, not-held, never}
 use Rattle.sent.specs.Laws.Sound.{SoundTracker}
 use Rattle.sent.specs.Laws.Loss.{marked-length}
-use Rattle.sent.specs.Laws.Packets.{Loose, sound-loose, acked-loose, acked-lands, marked-counts, marked-sound, Released, released, sound-later, resent-counts, resent-sound, one-more-counts, one-more-sound}
+use Rattle.sent.specs.Laws.Packets.{Loose, sound-loose, acked-loose, acked-lands, marked-counts, marked-sound, released, sound-later, resent-counts, resent-sound, one-more-counts, one-more-sound}
 
 -- A sound tracker whose kept packets find a place.
 pub record Held (t : Tracker) : Type 0 where
@@ -83,11 +81,16 @@ step-loose delay clock t o hd hc s = by-test (isKept t o && isUnacked (packetAt 
           sent-to = s .sent-to;
           few = omega (arith, length-set (t .packets) i (withAcked p), s .few);
           numbers-sound = ap soundOf moved
-            ∙ sound-from _ (credited-sound (t .numbers) base delay (p .len) (eqb (p .resent) 0) (clock - p .«sent_at») (sound-facts (t .numbers) (s .numbers-sound)) (omega arith));
+              ∙ sound-from _ (credited-sound (t .numbers) base delay (p .len) (eqb (p .resent) 0) (clock - p .«sent_at») (sound-facts (t .numbers) (s .numbers-sound)) (omega arith));
           delays-sound = taken-sound clock (t .delays) (s .delays-sound) delay clock (t .numbers .«delay_window») (omega arith) hd;
           packets-loose = acked-loose clock (t .packets) i inside u (s .packets-loose);
-          in-flight-is-sum = omega (arith, lands, s .in-flight-is-sum, ap (λ (n : Numbers). n .«in_flight») moved,
-            credited-in-flight (t .numbers) base delay (p .len) (eqb (p .resent) 0) (clock - p .«sent_at»));
+          in-flight-is-sum = omega (
+            arith,
+            lands,
+            s .in-flight-is-sum,
+            ap (λ (n : Numbers). n .«in_flight») moved,
+            credited-in-flight (t .numbers) base delay (p .len) (eqb (p .resent) 0) (clock - p .«sent_at»),
+          );
         }
 
     by-test : (v : Bool) → (isKept t o && isUnacked (packetAt t o)) ≡ v → LooseTracker clock (cond v (newlyAckedOf t delay clock o) t)
@@ -228,7 +231,7 @@ recorded-held t type tag len clock h after hc room fits place =
         kept-of-sent = omega (arith, longer, s .kept-of-sent);
         sent-to = omega arith;
         numbers-sound = sound-from _ (accepted-sound (transmittedOf (t .numbers) len) clock
-          (sound-facts _ (ap soundOf moved ∙ sound-from _ (sent-sound (t .numbers) len (sound-facts (t .numbers) (s .numbers-sound))))) hc);
+            (sound-facts _ (ap soundOf moved ∙ sound-from _ (sent-sound (t .numbers) len (sound-facts (t .numbers) (s .numbers-sound))))) hc);
         delays-sound = later-sound (t .numbers .last) (t .delays) (s .delays-sound) clock after;
         starts = m .2 (s .starts);
         packets-sound = one-more-sound p refl clock (t .packets) (sound-later (t .numbers .last) clock (t .packets) after (s .packets-sound)) (simp (typed, now));

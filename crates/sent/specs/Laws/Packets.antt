@@ -6,7 +6,7 @@ use Prim.Native.Nat.{ℕ, zero, suc, _+_, _-_, _≤_, _<_}
 use native.Mathlib.Omega.{arith}
 use lib.Dec.{leb, eqb}
 use lib.ListN.{length, getD, set}
-use borrow.Author.Tests.{le-leb, leb-true, eq-eqb, eqb-true, eqb-false, ne-eqb}
+use borrow.Author.Tests.{le-leb, leb-true, eq-eqb, eqb-true, eqb-false}
 use Rattle.congestion.specs.Laws.Numbers.{both, and-of}
 use Rattle.sent.specs.declared.state.Packet.{Packet}
 use Rattle.sent.specs.Loss.{lossThreshold, isUnacked, ackedOne, ackedCountOf, isLostOf, isNewlyLostOf, withLost, lossMarkedOf}
@@ -77,8 +77,8 @@ more-acked b p later more h s =
       sent-to = s .sent-to;
       lost-to = s .lost-to;
       lost-means = λ n.
-        let q = both (isUnacked p) (leb lossThreshold later) (s .lost-means n) in
-        and-of (isUnacked p) (leb lossThreshold more) (q .0) (le-leb lossThreshold more (omega (arith, leb-true lossThreshold later (q .1))));
+          let q = both (isUnacked p) (leb lossThreshold later) (s .lost-means n) in
+          and-of (isUnacked p) (leb lossThreshold more) (q .0) (le-leb lossThreshold more (omega (arith, leb-true lossThreshold later (q .1))));
     }
 
 -- ---- lists
@@ -116,20 +116,21 @@ acked-lands (p ∷ l) (suc i) h u = omega (arith, acked-lands l i (omega arith) 
 pub acked-loose : (b : ℕ) (l : List Packet) (i : ℕ) → i < length l → isUnacked (getD l i noPacket) ≡ true → Loose b l → Loose b (set l i (withAcked (getD l i noPacket)))
 unfolding Loose
 acked-loose b [] i h u s = absurd (omega arith)
-acked-loose b (p ∷ l) zero h u s =
-    (record {
-      kind-to = s .0 .kind-to;
-      acked-to = omega arith;
-      resent-to = s .0 .resent-to;
-      sent-to = s .0 .sent-to;
-      lost-to = omega arith;
-      lost-means = λ n. absurd (n refl);
-    }, s .1)
+acked-loose b (p ∷ l) zero h u s = (
+  record {
+    kind-to = s .0 .kind-to;
+    acked-to = omega arith;
+    resent-to = s .0 .resent-to;
+    sent-to = s .0 .sent-to;
+    lost-to = omega arith;
+    lost-means = λ n. absurd (n refl);
+  },
+  s .1,
+)
 acked-loose b (p ∷ l) (suc i) h u s =
     (more-acked b p (ackedCountOf l) (ackedCountOf (set l i (withAcked (getD l i noPacket)))) (omega (arith, acked-counts l i (omega arith) u)) (s .0), acked-loose b l i (omega arith) u (s .1))
 
 -- ---- loss
-
 
 pub marked-counts : (l : List Packet) → (ackedCountOf (lossMarkedOf l) ≡ ackedCountOf l) × (inFlightOf (lossMarkedOf l) ≡ inFlightOf l)
 unfolding ackedCountOf inFlightOf lossMarkedOf

@@ -1,18 +1,15 @@
 -- Over any calls from a fresh tracker: every state passes the soundness test, so bytes in flight are the summed first lengths of the unacknowledged packets, the
 -- maximum is never below the minimum, places run from the first unacknowledged packet to the last sent, and a packet is marked lost exactly when it is lost.
-use mathlib.Core.Path.{_≡_, refl, sym, ap, ap₂, _∙_, subst, subst⁻¹}
-use mathlib.Core.Bool.{Bool, true, false, _&&_, cond}
-use mathlib.Core.List.{List, [], _∷_, _++_}
-use Prim.Native.Nat.{ℕ, zero, suc, _+_, _-_, _≤_, _<_, min}
+use mathlib.Core.Path.{_≡_, refl, sym, ap, _∙_, subst, subst⁻¹}
+use mathlib.Core.Bool.{Bool, true, cond}
+use mathlib.Core.List.{List, [], _∷_}
+use Prim.Native.Nat.{ℕ, zero, suc, _-_, _≤_, _<_, min}
 use native.Mathlib.Omega.{arith}
-use lib.Dec.{leb, eqb}
 use lib.ListN.{length, take, drop, getD, length-take}
 use lib.Seq.{take-append-seam}
-use borrow.Author.Tests.{leb-true}
 use Rattle.common.specs.Answer.{Answer, done, refused, _then_}
 use Rattle.packet.specs.declared.seq.SeqNum.{SeqNum}
 use Rattle.packet.specs.declared.header.PacketType.{PacketType}
-use Rattle.packet.specs.Sack.{maskAnswer}
 use Rattle.congestion.specs.declared.settings.Settings.{Settings}
 use Rattle.congestion.specs.declared.numbers.Numbers.{Numbers}
 use Rattle.congestion.specs.Settings.{inRangeOf}
@@ -20,13 +17,13 @@ use Rattle.congestion.specs.Numbers.{minimumOf, soundOf, startOf, noNumbers, ne
 use Rattle.congestion.specs.Laws.Numbers.{both, sound-facts, sound-from, settings-facts, start-sound}
 use Rattle.sent.specs.declared.state.Packet.{Packet}
 use Rattle.sent.specs.declared.state.SentPackets.{SentPackets}
-use Rattle.sent.specs.Loss.{isUnacked, ackedCountOf, isLostOf}
+use Rattle.sent.specs.Loss.{ackedCountOf, isLostOf}
 use Rattle.sent.specs.Tracker.{Tracker, places, offsetIn, clockedOf, noPacket}
 use Rattle.sent.specs.Transmit.{transmitOf}
 use Rattle.sent.specs.Ack.{ackCheck, releasedOf, markedOf, ackOf}
-use Rattle.sent.specs.State.{trackerOf, writtenOf, inFlightOf, packetSoundOf, packetsSoundOf, startsUnacked, stateSoundOf, answeredOf, answeredAs, whenStateSound, transmitAnswer, ackStateOf, ackAnswer, timeoutOf, timeoutAnswer, freshOf}
-use Rattle.sent.specs.Laws.Sound.{SoundTracker, state-facts, state-from, sound-answered, unsound-refused}
-use Rattle.sent.specs.Laws.Packets.{SoundPacket, packet-facts}
+use Rattle.sent.specs.State.{trackerOf, writtenOf, inFlightOf, packetSoundOf, packetsSoundOf, startsUnacked, stateSoundOf, answeredOf, answeredAs, transmitAnswer, ackStateOf, ackAnswer, timeoutOf, timeoutAnswer, freshOf}
+use Rattle.sent.specs.Laws.Sound.{SoundTracker, state-facts, state-from, sound-answered}
+use Rattle.sent.specs.Laws.Packets.{packet-facts}
 use Rattle.sent.specs.Laws.Keeps.{Held, transmit-keeps, ack-keeps, timeout-keeps}
 
 -- A fresh tracker, or what any call on a reached one hands back, whatever it answers.

@@ -1,10 +1,10 @@
 -- `hear` meets its contract: what is left to do from step `j` on gives, from here, what all of it gives from the start. A step that speaks of no kept packet, or
 -- of one that is acknowledged, changes nothing.
-use mathlib.Core.Path.{_≡_, refl, sym, ap, ap₂, _∙_}
-use mathlib.Core.Bool.{Bool, true, false}
-use Prim.Native.Nat.{ℕ, _≤_, _<_, _-_, _+_, _*_}
+use mathlib.Core.Path.{_≡_, sym, ap, ap₂, _∙_}
+use mathlib.Core.Bool.{true, false}
+use Prim.Native.Nat.{ℕ, _≤_, _<_, _-_, _*_}
 use native.Mathlib.Omega.{arith}
-use lib.ListN.{length, getD, set}
+use lib.ListN.{length, set}
 use borrow.Author.Needs.{needs}
 use borrow.Author.Tests.{not-true, not-false}
 use Rattle.congestion.specs.declared.numbers.Numbers.{Numbers}
@@ -16,15 +16,6 @@ use Rattle.sent.specs.Hear.{keepsOf, placeOf, newlyHeardOf, allHeardOf, 
 use Rattle.sent.specs.Laws.Hear.{unkept-same, acked-same, unacked-heard, steps-heard, next-step, no-step, kept-place}
 use Rattle.sent.proofs.ack.hear.Statement.{statement}
 use Rattle.sent.proofs.ack.hear.Tie as tie
-use Rattle.sent.proofs.ack.hear.Reads as reads
-use Rattle.sent.proofs.ack.hear.Lts as lts
-use Rattle.packet.proofs.sack.bit_count.Reads as bit-count-reads
-use Rattle.sent.proofs.ack.Ack.credited.Reads as credited-reads
-use Rattle.sent.proofs.ack.Ack.heard_at.Reads as heard-at-reads
-use Rattle.sent.proofs.ack.Ack.keeps.Reads as keeps-reads
-use Rattle.sent.proofs.ack.Ack.step_count.Reads as step-count-reads
-use Rattle.sent.proofs.state.Packet.acked_now.Reads as acked-now-reads
-use Rattle.sent.proofs.state.Packet.unacked.Reads as unacked-reads
 
 abbrev Inv-loop : tie.InvT-loop
 Inv-loop ack sack bits steps heard₀ j₀ heard j =
@@ -61,8 +52,11 @@ step-count-requires : tie.Need-step-count-requires Inv-loop μ-loop
 step-count-requires c κs = (omega (arith, bits-few c), c .before .before .pre .3)
 
 loop-holds : tie.Need-loop-holds Inv-loop μ-loop
-loop-holds c = (ap (λ (n : ℕ). allHeardOf (c .before .before .before .args .ack) (c .before .before .before .args .start) (stepsFrom (heardAt (c .before .before .before .args .ack) (c .before .before .before .args .sack .now) (c .before .bit-count .result)) 0 n)) (zero-less ∙ c .step-count .ensures)
-      ∙ steps-heard (c .before .before .before .args .ack) (c .before .before .before .args .sack .now) (c .before .before .before .args .start) (c .before .bit-count .result) (bits-all (c .before)) (c .before .before .before .pre .3), omega arith)
+loop-holds c = (
+  ap (λ (n : ℕ). allHeardOf (c .before .before .before .args .ack) (c .before .before .before .args .start) (stepsFrom (heardAt (c .before .before .before .args .ack) (c .before .before .before .args .sack .now) (c .before .bit-count .result)) 0 n)) (zero-less ∙ c .step-count .ensures)
+      ∙ steps-heard (c .before .before .before .args .ack) (c .before .before .before .args .sack .now) (c .before .before .before .args .start) (c .before .bit-count .result) (bits-all (c .before)) (c .before .before .before .pre .3),
+  omega arith,
+)
 
 heard-at-requires : tie.Need-heard-at-requires Inv-loop μ-loop
 heard-at-requires c κs = (omega (arith, bits-few (c .before .before .before)), omega (arith, bits-few (c .before .before .before), steps-few (c .before .before)), omega (arith, c .before .before .before .before .before .pre .4, c .before .before .before .before .before .pre .2), omega (arith, c .before .before .before .before .before .pre .0, c .before .before .before .before .before .pre .2))
@@ -77,9 +71,12 @@ loop-less : tie.Need-loop-less Inv-loop μ-loop
 loop-less c = omega arith
 
 loop-again : tie.Need-loop-again Inv-loop μ-loop
-loop-again c = (sym (next-step (c .before .before .before .before .before .before .before .before .args .ack) (c .before .before .before .before .before .before .before .before .args .sack .now) (c .before .before .before .before .before .before .bit-count .result) (c .before .before .before .before .loop .heard) (c .before .before .before .before .loop .heard) (c .before .before .before .before .loop .j) (c .before .before .before .before .before .step-count .result) (c .before .before .heard-at .result) (omega arith) (c .before .before .heard-at .ensures)
+loop-again c = (
+  sym (next-step (c .before .before .before .before .before .before .before .before .args .ack) (c .before .before .before .before .before .before .before .before .args .sack .now) (c .before .before .before .before .before .before .bit-count .result) (c .before .before .before .before .loop .heard) (c .before .before .before .before .loop .heard) (c .before .before .before .before .loop .j) (c .before .before .before .before .before .step-count .result) (c .before .before .heard-at .result) (omega arith) (c .before .before .heard-at .ensures)
       (unkept-same (c .before .before .before .before .before .before .before .before .args .ack) (c .before .before .before .before .loop .heard) (c .before .before .heard-at .result) (sym (c .before .keeps .ensures) ∙ not-true _ (c .if1 .taken))))
-      ∙ c .before .before .before .before .loop .inv .0, omega arith)
+      ∙ c .before .before .before .before .loop .inv .0,
+  omega arith,
+)
 
 sub-place : tie.Need-sub-place Inv-loop μ-loop
 sub-place c = omega (arith, kept-here (c .before))
@@ -103,9 +100,12 @@ loop-less-2 : tie.Need-loop-less-2 Inv-loop μ-loop
 loop-less-2 c = omega arith
 
 loop-again-2 : tie.Need-loop-again-2 Inv-loop μ-loop
-loop-again-2 c = (sym (next-step (c .before .before .before .before .before .before .before .before .before .before .before .before .args .ack) (c .before .before .before .before .before .before .before .before .before .before .before .before .args .sack .now) (c .before .before .before .before .before .before .before .before .before .before .bit-count .result) (c .before .before .before .before .before .before .before .before .loop .heard) (c .before .before .before .before .before .before .before .before .loop .heard) (c .before .before .before .before .before .before .before .before .loop .j) (c .before .before .before .before .before .before .before .before .before .step-count .result) (c .before .before .before .before .before .before .heard-at .result) (omega arith) (c .before .before .before .before .before .before .heard-at .ensures)
+loop-again-2 c = (
+  sym (next-step (c .before .before .before .before .before .before .before .before .before .before .before .before .args .ack) (c .before .before .before .before .before .before .before .before .before .before .before .before .args .sack .now) (c .before .before .before .before .before .before .before .before .before .before .bit-count .result) (c .before .before .before .before .before .before .before .before .loop .heard) (c .before .before .before .before .before .before .before .before .loop .heard) (c .before .before .before .before .before .before .before .before .loop .j) (c .before .before .before .before .before .before .before .before .before .step-count .result) (c .before .before .before .before .before .before .heard-at .result) (omega arith) (c .before .before .before .before .before .before .heard-at .ensures)
       (acked-same (c .before .before .before .before .before .before .before .before .before .before .before .before .args .ack) (c .before .before .before .before .before .before .before .before .loop .heard) (c .before .before .before .before .before .before .heard-at .result) (keeps-here (c .before .before .before .before)) (sym (c .before .unacked .ensures) ∙ not-true _ (c .if2 .taken))))
-      ∙ c .before .before .before .before .before .before .before .before .loop .inv .0, omega arith)
+      ∙ c .before .before .before .before .before .before .before .before .loop .inv .0,
+  omega arith,
+)
 
 acked-now-requires : tie.Need-acked-now-requires Inv-loop μ-loop
 acked-now-requires c κs = search needs
@@ -128,9 +128,9 @@ loop-again-3 c = let a = c .before .before .before .before .before .before .befo
     let h = c .before .before .before .before .before .before .before .before .before .before .before .loop .heard in
     let o = c .before .before .before .before .before .before .before .before .before .heard-at .result in (
       sym (next-step a (c .before .before .before .before .before .before .before .before .before .before .before .before .before .before .before .args .sack .now) (c .before .before .before .before .before .before .before .before .before .before .before .before .before .bit-count .result) h (stored a h o (c .credited .result) (c .before .acked-now .result)) (c .before .before .before .before .before .before .before .before .before .before .before .loop .j) (c .before .before .before .before .before .before .before .before .before .before .before .before .step-count .result) o (omega arith) (c .before .before .before .before .before .before .before .before .before .heard-at .ensures)
-      (unacked-heard a h o (keeps-here (c .before .before .before .before .before .before .before)) (sym (c .before .before .before .before .unacked .ensures) ∙ not-false _ (c .before .before .before .if2 .left))
-      ∙ sym (ap₂ (stored a h o) (c .credited .ensures) (c .before .acked-now .ensures))))
-      ∙ c .before .before .before .before .before .before .before .before .before .before .before .loop .inv .0,
+          (unacked-heard a h o (keeps-here (c .before .before .before .before .before .before .before)) (sym (c .before .before .before .before .unacked .ensures) ∙ not-false _ (c .before .before .before .if2 .left))
+          ∙ sym (ap₂ (stored a h o) (c .credited .ensures) (c .before .acked-now .ensures))))
+          ∙ c .before .before .before .before .before .before .before .before .before .before .before .loop .inv .0,
       omega arith,
     )
 

@@ -1,9 +1,7 @@
 -- `lose` meets its contract: from `i` on losses are marked and counted, before it nothing is changed, and `later` of those from `i` on are acknowledged.
-use mathlib.Core.Path.{_≡_, refl, sym, ap, ap₂, _∙_}
-use mathlib.Core.Bool.{Bool, true, false}
-use mathlib.Core.List.{List, [], _∷_, _++_}
-use Prim.Native.Nat.{ℕ, suc, _≤_, _<_, _-_, _+_}
-use native.Mathlib.Numerals.{add-one}
+use mathlib.Core.Path.{_≡_, sym, ap, ap₂, _∙_}
+use mathlib.Core.Bool.{true, false}
+use Prim.Native.Nat.{ℕ, _≤_, _-_, _+_}
 use native.Mathlib.Omega.{arith}
 use lib.ListN.{length, length-map, take, drop, getD, set}
 use borrow.Author.Needs.{needs}
@@ -19,12 +17,6 @@ use Rattle.sent.specs.Laws.Kept.{kept-end, acked-one-small}
 use Rattle.sent.specs.Laws.Loss.{loss-starts, loss-ends, loss-read, loss-same, loss-new, count-behind, newly-lost-unacked}
 use Rattle.sent.proofs.ack.lose.Statement.{statement}
 use Rattle.sent.proofs.ack.lose.Tie as tie
-use Rattle.sent.proofs.ack.lose.Reads as reads
-use Rattle.sent.proofs.ack.lose.Lts as lts
-use Rattle.congestion.proofs.numbers.Numbers.lost.Reads as lost-reads
-use Rattle.sent.proofs.state.Packet.acked_one.Reads as acked-one-reads
-use Rattle.sent.proofs.state.Packet.is_newly_lost.Reads as is-newly-lost-reads
-use Rattle.sent.proofs.state.Packet.lost_now.Reads as lost-now-reads
 
 abbrev Inv-loop : tie.InvT-loop
 Inv-loop live next₀ later₀ i₀ next later i =
@@ -90,7 +82,7 @@ loop-again c = let at = c .before .before .before .before .before in
     let more = c .acked-one .ensures ∙ one in
     let small = acked-one-small (getD (a .heard .packets) (at .loop .i - 1) noPacket) in (
       at .loop .inv .0
-      ∙ loss-same (a .heard) (a .live) (few (c .before .before .before .before .before .before)) (at .loop .i) (omega arith) (omega arith) (tested (c .before .before) ∙ not-true _ (c .before .if1 .taken)),
+          ∙ loss-same (a .heard) (a .live) (few (c .before .before .before .before .before .before)) (at .loop .i) (omega arith) (omega arith) (tested (c .before .before) ∙ not-true _ (c .before .if1 .taken)),
       ap₂ (λ (x y : ℕ). x + y) (at .loop .inv .1) more ∙ sym (count-behind (a .heard) (a .live) (few (c .before .before .before .before .before .before)) (at .loop .i) (omega arith) (omega arith)),
       omega arith,
       omega (arith, more),
@@ -119,9 +111,9 @@ loop-again-2 c = let at = c .before .before .before .before .before .before .bef
     let none = newly-lost-unacked (getD (a .heard .packets) (at .loop .i - 1) noPacket) (ackedCountOf (drop (at .loop .i) (take (a .live) (a .heard .packets)))) new in
     let count = count-behind (a .heard) (a .live) (few (c .before .before .before .before .before .before .before .before)) (at .loop .i) (omega arith) (omega arith) in (
       stored-is (at .loop .next) (lossFromOf (a .heard) (a .live) (at .loop .i)) (at .loop .i - 1) (c .before .lost-now .result) (c .lost .result) (at .loop .inv .0)
-      ∙ loss-new (a .heard) (a .live) (few (c .before .before .before .before .before .before .before .before)) (at .loop .i) (omega arith) (omega arith) (c .before .lost-now .result) (c .lost .result) new
-      (c .before .lost-now .ensures ∙ ap (λ (q : Packet). withLost q 1) (read (c .before .before .before .before .before .before)))
-      (c .lost .ensures ∙ ap (λ (h : Heard). whenSound (h .numbers) (lostOf (h .numbers))) (at .loop .inv .0)),
+          ∙ loss-new (a .heard) (a .live) (few (c .before .before .before .before .before .before .before .before)) (at .loop .i) (omega arith) (omega arith) (c .before .lost-now .result) (c .lost .result) new
+          (c .before .lost-now .ensures ∙ ap (λ (q : Packet). withLost q 1) (read (c .before .before .before .before .before .before)))
+          (c .lost .ensures ∙ ap (λ (h : Heard). whenSound (h .numbers) (lostOf (h .numbers))) (at .loop .inv .0)),
       omega (arith, at .loop .inv .1, none, count),
       omega arith,
       omega arith,
