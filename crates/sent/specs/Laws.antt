@@ -15,3 +15,4 @@ pub mod LostState
 pub mod Packets
 pub mod Keeps
 pub mod Reached
+pub mod History

@@ -97,6 +97,9 @@ fresh-sound initial settings e =
       in-flight-is-sum = sym (ap (λ (m : Numbers). m .«in_flight») n);
     })
 
+pub fresh-held : (initial : SeqNum) (settings : Settings) → inRangeOf settings ≡ true → Held (trackerOf (freshOf initial settings))
+fresh-held initial settings e = held-of (freshOf initial settings) (fresh-sound initial settings e)
+
 -- ---- the theorems
 
 -- Every state that a fresh tracker reaches passes the soundness test.
