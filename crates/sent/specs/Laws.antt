@@ -12,3 +12,7 @@ pub mod Acknowledge
 pub mod AckState
 pub mod Lost
 pub mod LostState
+pub mod Packets
+pub mod Keeps
+pub mod Reached
+pub mod History

@@ -1,5 +1,5 @@
 -- Loss (document 01, "Sent packets"). Definitions only, over a list of packets in the order of their offsets.
-use Prim.Native.Nat.{ℕ, zero, suc, _+_}
+use Prim.Native.Nat.{ℕ, _+_}
 use mathlib.Core.Bool.{Bool, _&&_, cond}
 use mathlib.Core.List.{List, [], _∷_}
 use lib.Dec.{leb, eqb}

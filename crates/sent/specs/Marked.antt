@@ -2,7 +2,7 @@
 use Prim.Native.Nat.{ℕ, _+_}
 use mathlib.Core.List.{List, [], _∷_}
 use mathlib.Core.Bool.{false}
-use mathlib.Core.Path.{_≡_, refl}
+use mathlib.Core.Path.{refl}
 use lib.IntN.{pos}
 use lib.Ieee.{fin}
 use Rattle.common.specs.Answer.{Answer, done, refused}
@@ -19,7 +19,6 @@ use Rattle.sent.specs.Transmit.{transmitCheck, sentOf, transmitOf}
 use Rattle.sent.specs.Ack.{ackCheck, markedOf, ackOf, sackedFrom, offsetsFrom, heardOf, newlyAckedOf, allAcknowledgedOf, fromUnacked}
 use Rattle.sent.specs.Lost.{lostFrom, insertOf, ascendingOf, lostListOf}
 use Rattle.common.specs.Case.{AllHold}
-use Rattle.packet.specs.Sack.{bitOf}
 use Rattle.congestion.specs.Numbers.{soundOf, adjustedOf, timedOf, creditedOf}
 use Rattle.congestion.specs.Delays.{remainingOf, roomOf, takeOf}
 use Rattle.congestion.specs.Window.{adjustmentOf, nextMaximumOf}

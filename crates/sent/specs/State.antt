@@ -1,6 +1,6 @@
 -- The tracker in the state, the soundness test (docs/STATE.md), and what each public function answers. Definitions only.
-use Prim.Native.Nat.{ℕ, _+_, _-_}
-use mathlib.Core.Bool.{Bool, true, false, _&&_, cond}
+use Prim.Native.Nat.{ℕ, _+_}
+use mathlib.Core.Bool.{Bool, true, _&&_, cond}
 use mathlib.Core.List.{List, [], _∷_, _++_}
 use lib.Dec.{leb, eqb}
 use lib.ListN.{length, take, drop, replicate}
@@ -8,7 +8,6 @@ use Rattle.common.specs.Answer.{Answer, done, refused}
 use Rattle.packet.specs.declared.seq.SeqNum.{SeqNum}
 use Rattle.packet.specs.declared.header.PacketType.{PacketType}
 use Rattle.congestion.specs.declared.settings.Settings.{Settings}
-use Rattle.congestion.specs.declared.numbers.Numbers.{Numbers}
 use Rattle.congestion.specs.Settings.{inRangeOf}
 use Rattle.congestion.specs.Numbers.{soundOf, newOf, timedOutOf}
 use Rattle.congestion.specs.Delays.{delaysSoundOf, noDelays}

@@ -1,10 +1,10 @@
 -- The tracker as document 01 speaks of it ("Sent packets"): an initial number, n packets with offsets 1 to n, of which those from the first unacknowledged one to
 -- the last sent are kept, the controller's numbers and the kept delay samples. Definitions only.
-use Prim.Native.Nat.{ℕ, _+_, _-_}
+use Prim.Native.Nat.{ℕ, _-_}
 use mathlib.Core.Bool.{Bool, _&&_, cond}
-use mathlib.Core.List.{List, [], _∷_, _++_}
-use lib.Dec.{leb, ltb, eqb}
-use lib.ListN.{length, take, drop, getD, set, replicate}
+use mathlib.Core.List.{List}
+use lib.Dec.{leb, ltb}
+use lib.ListN.{length, getD, set}
 use Rattle.common.specs.Answer.{Answer, done, refused}
 use Rattle.packet.specs.declared.seq.SeqNum.{SeqNum}
 use Rattle.packet.specs.Seq.{offsetOf}

@@ -1,11 +1,11 @@
 -- What an ack leaves in the state: where nothing was newly acknowledged only the clock, and else the marks, with what is kept moved down.
 use mathlib.Core.Path.{_≡_, refl, sym, ap, ap₂, _∙_}
-use mathlib.Core.Bool.{Bool, true, false, _&&_, cond}
-use mathlib.Core.List.{List, [], _∷_, _++_}
-use Prim.Native.Nat.{ℕ, zero, suc, _+_, _-_, _%_, _≤_, _<_}
+use mathlib.Core.Bool.{Bool, true, false, cond}
+use mathlib.Core.List.{List, _++_}
+use Prim.Native.Nat.{ℕ, _+_, _-_, _%_, _≤_}
 use native.Mathlib.Omega.{arith}
 use lib.Dec.{leb, ltb, eqb}
-use lib.ListN.{length, take, drop, getD, set, length-drop}
+use lib.ListN.{length, take, drop, set, length-drop}
 use lib.Seq.{take-at, drop-append-le}
 use borrow.Author.Tests.{ne-eqb, eqb-true, leb-true, ltb-false}
 use Rattle.common.specs.Answer.{Answer, done, refused, _then_}
@@ -22,7 +22,7 @@ use Rattle.sent.specs.declared.ack.Ack.{Ack}
 use Rattle.sent.specs.declared.ack.Heard.{Heard}
 use Rattle.sent.specs.Loss.{lossMarkedOf, lossCountedOf}
 use Rattle.sent.specs.Tracker.{Tracker, places, offsetIn, clockAnswer, clockedOf}
-use Rattle.sent.specs.Ack.{heardOf, allAcknowledgedOf, lossOf, fromUnacked, releasedOf, markedOf, delayAnswer, mayAck, ackCheck, ackOf}
+use Rattle.sent.specs.Ack.{heardOf, lossOf, fromUnacked, releasedOf, markedOf, delayAnswer, mayAck, ackCheck, ackOf}
 use Rattle.sent.specs.Hear.{allHeardOf, lossHeardOf}
 use Rattle.sent.specs.State.{trackerOf, writtenOf, stateSoundOf, ackStateOf, answeredAs, ackAnswer}
 use Rattle.sent.specs.Laws.Checks.{never, then-done, held, not-held}

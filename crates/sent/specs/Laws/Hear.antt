@@ -3,12 +3,11 @@ use mathlib.Core.Path.{_≡_, refl, sym, ap, ap₂, _∙_}
 use mathlib.Core.Bool.{Bool, true, false, _&&_, cond}
 use mathlib.Core.List.{List, [], _∷_, _++_}
 use Prim.Native.Nat.{ℕ, zero, suc, _+_, _-_, _*_, _≤_, _<_}
-use native.Mathlib.Numerals.{add-one}
 use native.Mathlib.Omega.{arith}
 use lib.Dec.{leb, ltb, eqb}
 use lib.ListN.{length, getD}
 use Rattle.congestion.specs.Laws.Numbers.{both}
-use borrow.Author.Tests.{ltb-true, le-leb, lt-leb, lt-ltb, le-ltb, ne-eqb, leb-true, leb-false}
+use borrow.Author.Tests.{ltb-true, le-leb, lt-leb, le-ltb, ne-eqb, leb-true, leb-false}
 use Rattle.packet.specs.Sack.{bitOf}
 use Rattle.sent.specs.declared.state.Packet.{Packet}
 use Rattle.sent.specs.declared.ack.Ack.{Ack}

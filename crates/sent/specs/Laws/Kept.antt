@@ -3,7 +3,7 @@ use mathlib.Core.Path.{_≡_, refl, sym, ap, ap₂, _∙_}
 use mathlib.Core.List.{List, [], _∷_, _++_, append-assoc}
 use Prim.Native.Nat.{ℕ, zero, suc, _+_, _-_, _≤_, _<_}
 use native.Mathlib.Omega.{arith}
-use lib.ListN.{length, take, drop, getD, set, length-take, length-drop, length-set, length-append, drop-of-length-le, take-append-drop}
+use lib.ListN.{length, take, drop, getD, set, length-take, length-set, length-append, drop-of-length-le, take-append-drop}
 use native.Mathlib.Numerals.{add-one}
 use lib.Seq.{drop-cons, length-take-le, getD-take, take-set-lt, drop-set-lt, set-split}
 use Rattle.sent.specs.declared.state.Packet.{Packet}

@@ -2,15 +2,15 @@
 use mathlib.Core.Path.{_≡_, refl, sym, ap, ap₂, _∙_}
 use mathlib.Core.Bool.{Bool, true, false, _&&_, not, cond}
 use mathlib.Core.List.{List, [], _∷_, _++_}
-use Prim.Native.Nat.{ℕ, zero, suc, _+_, _-_, _≤_, _<_}
+use Prim.Native.Nat.{ℕ, suc, _+_, _-_, _≤_, _<_}
 use native.Mathlib.Omega.{arith}
 use lib.Dec.{leb, eqb}
 use lib.ListN.{length, take, drop, getD, set, length-take, take-append-drop}
-use lib.Seq.{set-at, getD-at, length-take-le, drop-nil, drop-cons}
-use borrow.Author.Tests.{eqb-true, eq-eqb}
+use lib.Seq.{set-at, getD-at, length-take-le, drop-cons}
+use borrow.Author.Tests.{eqb-true}
 use Rattle.congestion.specs.declared.numbers.Numbers.{Numbers}
 use Rattle.congestion.specs.Numbers.{lostOf, whenSound}
-use Rattle.congestion.specs.Laws.Numbers.{both, and-of}
+use Rattle.congestion.specs.Laws.Numbers.{both}
 use Rattle.sent.specs.declared.state.Packet.{Packet}
 use Rattle.sent.specs.declared.ack.Heard.{Heard}
 use Rattle.sent.specs.Loss.{isUnacked, ackedOne, ackedCountOf, isLostOf, isNewlyLostOf, withLost, lossMarkedOf, lossCountedOf}

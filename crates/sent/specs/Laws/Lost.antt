@@ -2,22 +2,21 @@
 use mathlib.Core.Path.{_≡_, refl, sym, ap, ap₂, _∙_}
 use mathlib.Core.Bool.{Bool, true, false, cond}
 use mathlib.Core.List.{List, [], _∷_, _++_, append-nil, append-assoc}
-use Prim.Native.Nat.{ℕ, zero, suc, _+_, _-_, _*_, _%_, _^_, _≤_, _<_, min}
+use Prim.Native.Nat.{ℕ, zero, suc, _+_, _-_, _*_, _≤_, _<_}
 use native.Mathlib.Numerals.{add-one}
 use native.Mathlib.Omega.{arith}
-use lib.Dec.{leb, ltb, eqb}
-use lib.ListN.{length, take, drop, getD, length-append, length-take, length-drop, List·getD-append, take-append-drop}
-use lib.Seq.{slice, slice-cons, slice-empty, getD-append-add, getD-take, getD-drop, length-take-le, take-take}
-use borrow.Author.Tests.{eq-eqb, ne-eqb, eqb-true, eqb-false, le-leb, lt-leb, lt-ltb, le-ltb, leb-true, leb-false}
+use lib.Dec.{leb, eqb}
+use lib.ListN.{length, getD, length-append}
+use lib.Seq.{slice, slice-cons, slice-empty}
+use borrow.Author.Tests.{eq-eqb, ne-eqb, eqb-true, eqb-false, le-leb, lt-leb}
 use Rattle.packet.specs.declared.seq.SeqNum.{SeqNum}
-use Rattle.packet.specs.declared.header.PacketType.{PacketType}
 use Rattle.packet.specs.declared.header.PacketType.the-variants.{Syn}
 use Rattle.packet.specs.Layout.{typeOf}
 use Rattle.packet.specs.Seq.{plusOf}
 use Rattle.sent.specs.declared.state.Packet.{Packet}
 use Rattle.sent.specs.declared.answer.LostPacket.{LostPacket}
 use Rattle.sent.specs.Tracker.{noPacket}
-use Rattle.sent.specs.Lost.{lostPacketOf, lostFrom, insertOf, ascendingOf, noLost, lostOne, lostCountOf, nthLost, wrapPlace, lostPlaceOf}
+use Rattle.sent.specs.Lost.{lostPacketOf, lostFrom, insertOf, ascendingOf, noLost, lostOne, lostCountOf, nthLost}
 
 pub type-syn : (n : ℕ) → (n ≡ 0 → ⊥) → (n ≡ 1 → ⊥) → (n ≡ 2 → ⊥) → (n ≡ 3 → ⊥) → Syn ≡ typeOf n
 type-syn zero a b c d = absurd (a refl)

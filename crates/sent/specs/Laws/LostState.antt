@@ -1,14 +1,14 @@
 -- The lost list of a state: what is past the wrap comes first, each part in the order of its offsets.
 use mathlib.Core.Path.{_≡_, refl, sym, ap, ap₂, _∙_, subst⁻¹}
 use mathlib.Core.Bool.{Bool, true, false, cond}
-use mathlib.Core.List.{List, [], _∷_, _++_}
-use Prim.Native.Nat.{ℕ, zero, suc, _+_, _-_, _*_, _≤_, _<_, min}
+use mathlib.Core.List.{List, [], _++_}
+use Prim.Native.Nat.{ℕ, _+_, _-_, _≤_, _<_}
 use native.Mathlib.Omega.{arith}
-use lib.Dec.{leb, ltb, eqb}
+use lib.Dec.{leb, ltb}
 use lib.ListN.{length, take, drop, getD, length-append, List·getD-append, take-append-drop}
 use lib.Seq.{slice, length-slice, getD-append-add, getD-take, getD-drop, length-take-le, take-take}
-use borrow.Author.Tests.{le-leb, lt-leb, lt-ltb, le-ltb, leb-true, leb-false, ltb-true, ltb-false}
-use Rattle.common.specs.Answer.{Answer, done, refused}
+use borrow.Author.Tests.{le-leb, lt-leb, leb-true, leb-false, ltb-true, ltb-false}
+use Rattle.common.specs.Answer.{done, refused}
 use Rattle.packet.specs.declared.seq.SeqNum.{SeqNum}
 use Rattle.sent.specs.declared.state.Packet.{Packet}
 use Rattle.sent.specs.declared.state.SentPackets.{SentPackets}
@@ -17,7 +17,7 @@ use Rattle.sent.specs.Tracker.{places, goneOf, noPacket}
 use Rattle.sent.specs.Lost.{lostPacketOf, lostFrom, ascendingOf, lostListOf, noLost, lostAtOf, lostCountOf, nthLost, wrapPlace, lostPlaceOf}
 use Rattle.sent.specs.State.{trackerOf, stateSoundOf}
 use Rattle.sent.specs.Read.{lostCountIn}
-use Rattle.sent.specs.Laws.Kept.{kept-length, kept-end}
+use Rattle.sent.specs.Laws.Kept.{kept-end}
 use Rattle.sent.specs.Laws.Sound.{state-counts}
 use Rattle.sent.specs.Laws.Lost.{lost-length, nth-within, nth-is, lost-append, Rising, Below, swapped-sorted, sorted-length, rising-offsets, below-offsets}
 

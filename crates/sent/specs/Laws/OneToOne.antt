@@ -1,11 +1,10 @@
 -- No two answers have the same number and values.
 use mathlib.Core.Path.{_≡_, refl, sym, ap, ap₂, _∙_}
-use Prim.Native.Nat.{ℕ, zero, suc}
-use mathlib.Core.Bool.{Bool, cond}
+use Prim.Native.Nat.{ℕ}
+use mathlib.Core.Bool.{cond}
 use lib.Dec.{eqb}
 use native.Mathlib.Omega.{arith}
 use Rattle.common.specs.Answer.{Answer, done, refused}
-use Rattle.packet.specs.declared.sack.SackReason.{SackReason}
 use Rattle.packet.specs.declared.sack.SackReason.the-variants.{Insufficient, NotWords, TooLong}
 use Rattle.sent.specs.declared.state.SentPackets.{SentPackets}
 use Rattle.sent.specs.declared.answer.Reason.{Reason}

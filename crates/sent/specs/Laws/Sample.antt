@@ -7,7 +7,7 @@ use native.Mathlib.Omega.{arith}
 use lib.Dec.{leb, ltb, eqb}
 use lib.ListN.{length, take, drop}
 use lib.Seq.{take-append-seam, drop-append-seam, length-take-le}
-use borrow.Author.Tests.{le-leb, lt-leb, leb-false, leb-true, ltb-true, ne-eqb, eqb-true, eqb-false, not-true}
+use borrow.Author.Tests.{le-leb, lt-leb, leb-false, ltb-true, ne-eqb, eqb-true, not-true}
 use Rattle.congestion.specs.declared.delays.Sample.{Sample}
 use Rattle.congestion.specs.declared.delays.Delays.{Delays}
 use Rattle.congestion.specs.Delays.{dropFront, onto, dropBack, most, expiredOf, notSmallerOf, remainingOf, roomOf, takeOf, listOf, writtenOf, takenOf, delayBelow, timeBy, keptSoundOf, delaysSoundOf}

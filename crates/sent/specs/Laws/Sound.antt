@@ -1,11 +1,11 @@
 -- The soundness test: what it finds by parts, and what it says of a state that passes it.
 use mathlib.Core.Path.{_≡_, refl, sym, ap, _∙_}
 use mathlib.Core.Bool.{Bool, true, false, _&&_, _||_, not, cond}
-use mathlib.Core.List.{List, [], _∷_, _++_}
-use Prim.Native.Nat.{ℕ, zero, suc, _+_, _-_, _≤_, _<_}
+use mathlib.Core.List.{List, [], _∷_}
+use Prim.Native.Nat.{ℕ, suc, _-_, _≤_}
 use native.Mathlib.Omega.{arith}
 use lib.Dec.{leb, eqb}
-use lib.ListN.{length, take, drop, getD}
+use lib.ListN.{length, take, getD}
 use borrow.Author.Tests.{le-leb, leb-true, eqb-true, eq-eqb, ne-eqb}
 use Rattle.congestion.specs.Laws.Numbers.{both, and-of}
 use Rattle.sent.specs.Read.{someUnacked}
@@ -13,7 +13,7 @@ use Rattle.congestion.specs.Numbers.{soundOf}
 use Rattle.congestion.specs.Delays.{delaysSoundOf}
 use Rattle.sent.specs.declared.state.Packet.{Packet}
 use Rattle.sent.specs.declared.state.SentPackets.{SentPackets}
-use Rattle.sent.specs.Loss.{isUnacked, ackedOne, ackedCountOf, isLostOf}
+use Rattle.sent.specs.Loss.{isUnacked}
 use Rattle.sent.specs.Tracker.{Tracker, places, mostSent, noPacket}
 use Rattle.common.specs.Answer.{Answer, done, refused}
 use Rattle.sent.specs.State.{trackerOf, startsUnacked, packetsSoundOf, inFlightOf, trackerSoundOf, stateSoundOf, whenStateSound, readOf}

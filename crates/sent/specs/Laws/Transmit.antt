@@ -1,11 +1,11 @@
 -- A transmit in the state: what is stored where.
-use mathlib.Core.Path.{_≡_, refl, sym, ap, ap₂, _∙_}
+use mathlib.Core.Path.{_≡_, sym, ap, ap₂, _∙_}
 use mathlib.Core.Bool.{Bool, true, false, _&&_, cond}
-use mathlib.Core.List.{List, [], _∷_, _++_}
-use Prim.Native.Nat.{ℕ, zero, suc, _+_, _-_, _≤_, _<_}
+use mathlib.Core.List.{List}
+use Prim.Native.Nat.{ℕ, _+_, _-_, _≤_, _<_}
 use native.Mathlib.Omega.{arith}
-use lib.Dec.{leb, ltb, eqb}
-use lib.ListN.{length, take, drop, getD, set}
+use lib.Dec.{leb, ltb}
+use lib.ListN.{length, take, getD, set}
 use lib.Seq.{getD-take}
 use borrow.Author.Tests.{le-leb, lt-leb, lt-ltb, le-ltb, leb-false}
 use Rattle.common.specs.Answer.{Answer, done, refused, _then_}
@@ -18,7 +18,7 @@ use Rattle.sent.specs.declared.state.SentPackets.{SentPackets}
 use Rattle.sent.specs.Tracker.{Tracker, places, mostSent, offsetIn, clockAnswer, goneOf, isKept, noPacket, packetAt, withPacketAt, clockedOf}
 use Rattle.sent.specs.Transmit.{mayTransmit, roomAnswer, transmitCheck, withResent, resentOf, firstSent, recordedOf, sentOf, transmitOf}
 use Rattle.sent.specs.State.{trackerOf, writtenOf, stateSoundOf, answeredOf, transmitAnswer}
-use Rattle.sent.specs.Laws.Kept.{kept-length, written-kept, written-at, written-behind}
+use Rattle.sent.specs.Laws.Kept.{written-kept, written-at, written-behind}
 use Rattle.sent.specs.Laws.Sound.{state-counts, sound-answered}
 use Rattle.sent.specs.Laws.Checks.{then-done, held, not-held}
 

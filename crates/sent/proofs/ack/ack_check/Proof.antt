@@ -1,6 +1,6 @@
 -- `ack_check` meets its contract: at each `return` the tests that led there pick the case of the definition.
-use mathlib.Core.Path.{_≡_, refl, sym, ap, _∙_}
-use mathlib.Core.Bool.{Bool, cond}
+use mathlib.Core.Path.{_≡_, sym, ap, _∙_}
+use mathlib.Core.Bool.{cond}
 use Prim.Native.Nat.{ℕ, _≤_, _^_}
 use native.Mathlib.Omega.{arith}
 use borrow.Author.Tests.{le-leb, lt-leb}
@@ -11,9 +11,6 @@ use Rattle.sent.specs.Ack.{mayAck, ackCheck}
 use borrow.Author.Needs.{needs}
 use Rattle.sent.proofs.ack.ack_check.Statement.{statement}
 use Rattle.sent.proofs.ack.ack_check.Tie as tie
-use Rattle.sent.proofs.ack.ack_check.Reads as reads
-use Rattle.sent.proofs.ack.ack_check.Lts as lts
-use Rattle.packet.proofs.sack.check.Reads as check-reads
 
 pos-of : (n : ℕ) → (n ≡ 0 → ⊥) → 1 ≤ n
 pos-of n h = omega arith

@@ -1,13 +1,11 @@
 -- `acked_run` meets its contract: those before `run` are acknowledged, so the run goes on from there, and stops at the first that is not.
-use mathlib.Core.Path.{_≡_, refl, sym, ap, ap₂, _∙_}
-use mathlib.Core.Bool.{Bool, true, false}
-use mathlib.Core.List.{List, [], _∷_, _++_}
-use Prim.Native.Nat.{ℕ, suc, _≤_, _<_, _-_, _+_}
+use mathlib.Core.Path.{_≡_, refl, sym, ap, _∙_}
+use mathlib.Core.List.{[]}
+use Prim.Native.Nat.{ℕ, _≤_, _-_}
 use native.Mathlib.Numerals.{add-one}
 use native.Mathlib.Omega.{arith}
-use lib.ListN.{length, length-map, take, drop, getD, set}
+use lib.ListN.{length, take, drop, getD}
 use borrow.Author.Needs.{needs}
-use borrow.Author.Tests.{not-true, not-false}
 use Rattle.sent.specs.declared.state.Packet.{Packet}
 use Rattle.sent.specs.Tracker.{noPacket}
 use lib.ListN.{drop-of-length-le}
@@ -18,9 +16,6 @@ use Rattle.sent.specs.Laws.Kept.{kept-length}
 use Rattle.sent.specs.Laws.Loss.{run-stops, run-goes-on}
 use Rattle.sent.proofs.ack.acked_run.Statement.{statement}
 use Rattle.sent.proofs.ack.acked_run.Tie as tie
-use Rattle.sent.proofs.ack.acked_run.Reads as reads
-use Rattle.sent.proofs.ack.acked_run.Lts as lts
-use Rattle.sent.proofs.state.Packet.unacked.Reads as unacked-reads
 
 abbrev Inv-loop : tie.InvT-loop
 Inv-loop live packets run₀ run =

@@ -1,10 +1,10 @@
 -- `hear` meets its contract: what is left to do from step `j` on gives, from here, what all of it gives from the start. A step that speaks of no kept packet, or
 -- of one that is acknowledged, changes nothing.
-use mathlib.Core.Path.{_≡_, refl, sym, ap, ap₂, _∙_}
-use mathlib.Core.Bool.{Bool, true, false}
-use Prim.Native.Nat.{ℕ, _≤_, _<_, _-_, _+_, _*_}
+use mathlib.Core.Path.{_≡_, sym, ap, ap₂, _∙_}
+use mathlib.Core.Bool.{true, false}
+use Prim.Native.Nat.{ℕ, _≤_, _<_, _-_, _*_}
 use native.Mathlib.Omega.{arith}
-use lib.ListN.{length, getD, set}
+use lib.ListN.{length, set}
 use borrow.Author.Needs.{needs}
 use borrow.Author.Tests.{not-true, not-false}
 use Rattle.congestion.specs.declared.numbers.Numbers.{Numbers}
@@ -16,15 +16,6 @@ use Rattle.sent.specs.Hear.{keepsOf, placeOf, newlyHeardOf, allHeardOf, 
 use Rattle.sent.specs.Laws.Hear.{unkept-same, acked-same, unacked-heard, steps-heard, next-step, no-step, kept-place}
 use Rattle.sent.proofs.ack.hear.Statement.{statement}
 use Rattle.sent.proofs.ack.hear.Tie as tie
-use Rattle.sent.proofs.ack.hear.Reads as reads
-use Rattle.sent.proofs.ack.hear.Lts as lts
-use Rattle.packet.proofs.sack.bit_count.Reads as bit-count-reads
-use Rattle.sent.proofs.ack.Ack.credited.Reads as credited-reads
-use Rattle.sent.proofs.ack.Ack.heard_at.Reads as heard-at-reads
-use Rattle.sent.proofs.ack.Ack.keeps.Reads as keeps-reads
-use Rattle.sent.proofs.ack.Ack.step_count.Reads as step-count-reads
-use Rattle.sent.proofs.state.Packet.acked_now.Reads as acked-now-reads
-use Rattle.sent.proofs.state.Packet.unacked.Reads as unacked-reads
 
 abbrev Inv-loop : tie.InvT-loop
 Inv-loop ack sack bits steps heard₀ j₀ heard j =

@@ -1,9 +1,7 @@
 -- `lose` meets its contract: from `i` on losses are marked and counted, before it nothing is changed, and `later` of those from `i` on are acknowledged.
-use mathlib.Core.Path.{_≡_, refl, sym, ap, ap₂, _∙_}
-use mathlib.Core.Bool.{Bool, true, false}
-use mathlib.Core.List.{List, [], _∷_, _++_}
-use Prim.Native.Nat.{ℕ, suc, _≤_, _<_, _-_, _+_}
-use native.Mathlib.Numerals.{add-one}
+use mathlib.Core.Path.{_≡_, sym, ap, ap₂, _∙_}
+use mathlib.Core.Bool.{true, false}
+use Prim.Native.Nat.{ℕ, _≤_, _-_, _+_}
 use native.Mathlib.Omega.{arith}
 use lib.ListN.{length, length-map, take, drop, getD, set}
 use borrow.Author.Needs.{needs}
@@ -19,12 +17,6 @@ use Rattle.sent.specs.Laws.Kept.{kept-end, acked-one-small}
 use Rattle.sent.specs.Laws.Loss.{loss-starts, loss-ends, loss-read, loss-same, loss-new, count-behind, newly-lost-unacked}
 use Rattle.sent.proofs.ack.lose.Statement.{statement}
 use Rattle.sent.proofs.ack.lose.Tie as tie
-use Rattle.sent.proofs.ack.lose.Reads as reads
-use Rattle.sent.proofs.ack.lose.Lts as lts
-use Rattle.congestion.proofs.numbers.Numbers.lost.Reads as lost-reads
-use Rattle.sent.proofs.state.Packet.acked_one.Reads as acked-one-reads
-use Rattle.sent.proofs.state.Packet.is_newly_lost.Reads as is-newly-lost-reads
-use Rattle.sent.proofs.state.Packet.lost_now.Reads as lost-now-reads
 
 abbrev Inv-loop : tie.InvT-loop
 Inv-loop live next₀ later₀ i₀ next later i =

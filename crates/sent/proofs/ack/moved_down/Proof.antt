@@ -1,20 +1,14 @@
 -- `moved_down` meets its contract: the first `i` have been moved, and what is read next stands past them, as it was.
-use mathlib.Core.Path.{_≡_, refl, sym, ap, ap₂, _∙_}
-use mathlib.Core.Bool.{Bool, true, false}
-use mathlib.Core.List.{List, [], _∷_, _++_}
-use Prim.Native.Nat.{ℕ, suc, _≤_, _<_, _-_, _+_}
-use native.Mathlib.Numerals.{add-one}
+use mathlib.Core.Path.{_≡_, refl, ap, _∙_}
+use mathlib.Core.List.{List}
+use Prim.Native.Nat.{ℕ, _≤_, _-_, _+_}
 use native.Mathlib.Omega.{arith}
-use lib.ListN.{length, length-map, take, drop, getD, set}
-use borrow.Author.Needs.{needs}
-use borrow.Author.Tests.{not-true, not-false}
+use lib.ListN.{length, getD, set}
 use Rattle.sent.specs.declared.state.Packet.{Packet}
 use Rattle.sent.specs.Tracker.{noPacket}
 use Rattle.sent.specs.Laws.Move.{movedOf, moved-one}
 use Rattle.sent.proofs.ack.moved_down.Statement.{statement}
 use Rattle.sent.proofs.ack.moved_down.Tie as tie
-use Rattle.sent.proofs.ack.moved_down.Reads as reads
-use Rattle.sent.proofs.ack.moved_down.Lts as lts
 
 abbrev Inv-loop : tie.InvT-loop
 Inv-loop first left next₀ from end i₀ next i =

@@ -1,19 +1,16 @@
 -- `lost_between` meets its contract: what was counted and what is left to count come to the whole.
-use mathlib.Core.Path.{_≡_, refl, sym, ap, ap₂, _∙_}
-use Prim.Native.Nat.{ℕ, suc, _≤_, _<_, _-_, _+_}
+use mathlib.Core.Path.{_≡_, sym, ap, _∙_}
+use Prim.Native.Nat.{ℕ, _≤_, _-_, _+_}
 use native.Mathlib.Omega.{arith}
-use lib.ListN.{length, length-map, getD}
+use lib.ListN.{length, getD}
 use lib.Seq.{slice}
 use borrow.Author.Needs.{needs}
 use Rattle.sent.specs.declared.state.Packet.{Packet}
 use Rattle.sent.specs.Tracker.{noPacket}
-use Rattle.sent.specs.Lost.{lostOne, lostCountOf}
+use Rattle.sent.specs.Lost.{lostCountOf}
 use Rattle.sent.specs.Laws.Lost.{lost-one-small, count-next, count-done}
 use Rattle.sent.proofs.lost.lost_between.Statement.{statement}
 use Rattle.sent.proofs.lost.lost_between.Tie as tie
-use Rattle.sent.proofs.lost.lost_between.Reads as reads
-use Rattle.sent.proofs.lost.lost_between.Lts as lts
-use Rattle.sent.proofs.state.Packet.lost_one.Reads as lost-one-reads
 
 abbrev Inv-loop : tie.InvT-loop
 Inv-loop from to packets count₀ i₀ count i =

@@ -1,18 +1,13 @@
 -- `lost_place` meets its contract: the packet that is looked for among all is, among those from `i` on, the one at position `left`.
-use mathlib.Core.Path.{_≡_, refl, sym, ap, ap₂, _∙_}
-use Prim.Native.Nat.{ℕ, suc, _≤_, _<_, _-_, _+_}
+use mathlib.Core.Path.{_≡_, refl, sym, ap, _∙_}
+use Prim.Native.Nat.{ℕ, _≤_, _-_, _+_}
 use native.Mathlib.Omega.{arith}
-use lib.ListN.{length, length-map, getD}
+use lib.ListN.{length}
 use lib.Seq.{slice}
-use borrow.Author.Needs.{needs}
-use Rattle.sent.specs.declared.state.Packet.{Packet}
-use Rattle.sent.specs.Tracker.{noPacket}
 use Rattle.sent.specs.Lost.{nthLost}
 use Rattle.sent.specs.Laws.Lost.{nth-skip, nth-here, nth-next, nth-done}
 use Rattle.sent.proofs.lost.lost_place.Statement.{statement}
 use Rattle.sent.proofs.lost.lost_place.Tie as tie
-use Rattle.sent.proofs.lost.lost_place.Reads as reads
-use Rattle.sent.proofs.lost.lost_place.Lts as lts
 
 abbrev Inv-loop : tie.InvT-loop
 Inv-loop from to position packets left₀ i₀ left i =

@@ -6,9 +6,6 @@ use borrow.Author.Tests.{lt-ltb, le-ltb}
 use borrow.Author.Needs.{needs}
 use Rattle.sent.proofs.lost.place_at.Statement.{statement}
 use Rattle.sent.proofs.lost.place_at.Tie as tie
-use Rattle.sent.proofs.lost.place_at.Reads as reads
-use Rattle.sent.proofs.lost.place_at.Lts as lts
-use Rattle.sent.proofs.lost.lost_place.Reads as lost-place-reads
 
 zero-first : (n : ℕ) → 0 + n ≡ n
 zero-first n = omega arith

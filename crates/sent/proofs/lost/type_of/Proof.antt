@@ -3,8 +3,6 @@ use Rattle.sent.specs.Laws.Lost.{type-syn}
 use borrow.Author.Needs.{needs}
 use Rattle.sent.proofs.lost.type_of.Statement.{statement}
 use Rattle.sent.proofs.lost.type_of.Tie as tie
-use Rattle.sent.proofs.lost.type_of.Reads as reads
-use Rattle.sent.proofs.lost.type_of.Lts as lts
 
 returns : tie.Need-returns
 returns c = search needs

@@ -1,23 +1,16 @@
 -- `walked` meets its contract: what stands from `i` on has been looked at, and `later` of it is acknowledged.
-use mathlib.Core.Path.{_≡_, refl, sym, ap, _∙_}
-use mathlib.Core.Bool.{true, false}
-use mathlib.Core.List.{List, [], _∷_}
-use Prim.Native.Nat.{ℕ, suc, _≤_, _<_, _-_, _+_, _*_, _^_}
+use mathlib.Core.Path.{_≡_, sym, ap}
+use Prim.Native.Nat.{_≤_, _-_, _*_, _^_}
 use native.Mathlib.Omega.{arith}
-use lib.ListN.{length, length-map, take, drop, getD}
+use lib.ListN.{length, take, drop, getD}
 use borrow.Author.Needs.{needs}
 use Rattle.sent.specs.declared.state.Packet.{Packet}
-use Rattle.sent.specs.Loss.{ackedOne, ackedCountOf}
-use Rattle.sent.specs.State.{flyingOf, inFlightOf, packetSoundOf, packetsSoundOf}
+use Rattle.sent.specs.Loss.{ackedCountOf}
+use Rattle.sent.specs.State.{inFlightOf, packetsSoundOf}
 use Rattle.sent.specs.Tracker.{noPacket}
 use Rattle.sent.specs.Laws.Kept.{kept-behind, kept-end, acked-one-small}
 use Rattle.sent.proofs.state.walked.Statement.{statement}
 use Rattle.sent.proofs.state.walked.Tie as tie
-use Rattle.sent.proofs.state.walked.Reads as reads
-use Rattle.sent.proofs.state.walked.Lts as lts
-use Rattle.sent.proofs.state.Packet.acked_one.Reads as acked-one-reads
-use Rattle.sent.proofs.state.Packet.flying.Reads as flying-reads
-use Rattle.sent.proofs.state.Packet.sound.Reads as sound-reads
 
 abbrev Inv-loop : tie.InvT-loop
 Inv-loop live last packets i₀ fine₀ in-flight₀ later₀ i fine in-flight later =

@@ -1,5 +1,5 @@
 -- `transmit_check` meets its contract: at each `return` the tests that led there pick the case of the definition.
-use mathlib.Core.Path.{_≡_, refl, sym, ap, _∙_, subst}
+use mathlib.Core.Path.{_≡_, sym, subst}
 use Prim.Native.Nat.{ℕ, _≤_, _<_}
 use native.Mathlib.Omega.{arith}
 use borrow.Author.Tests.{le-leb, lt-leb, le-ltb, lt-ltb}
@@ -7,9 +7,6 @@ use Rattle.sent.specs.Transmit.{transmitCheck}
 use borrow.Author.Needs.{needs}
 use Rattle.sent.proofs.transmit.transmit_check.Statement.{statement}
 use Rattle.sent.proofs.transmit.transmit_check.Tie as tie
-use Rattle.sent.proofs.transmit.transmit_check.Reads as reads
-use Rattle.sent.proofs.transmit.transmit_check.Lts as lts
-use Rattle.congestion.proofs.numbers.Numbers.free_window.Reads as free-window-reads
 
 pos-of : (n : ℕ) → (n ≡ 0 → ⊥) → 1 ≤ n
 pos-of n h = omega arith

@@ -1,15 +1,11 @@
 -- `credited` meets its contract: the numbers are moved by the packet's own length and round trip.
-use mathlib.Core.Path.{_≡_, ap, _∙_}
+use mathlib.Core.Path.{ap, _∙_}
 use Prim.Native.Nat.{ℕ}
 use lib.Dec.{eqb}
 use Rattle.congestion.specs.Numbers.{ackedOf}
 use borrow.Author.Needs.{needs}
 use Rattle.sent.proofs.ack.Ack.credited.Statement.{statement}
 use Rattle.sent.proofs.ack.Ack.credited.Tie as tie
-use Rattle.sent.proofs.ack.Ack.credited.Reads as reads
-use Rattle.sent.proofs.ack.Ack.credited.Lts as lts
-use Rattle.congestion.proofs.numbers.Numbers.acked.Reads as acked-reads
-use Rattle.sent.proofs.ack.Ack.round_trip.Reads as round-trip-reads
 
 round-trip-requires : tie.Need-round-trip-requires
 round-trip-requires c κs = search needs

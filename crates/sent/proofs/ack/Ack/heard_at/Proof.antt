@@ -4,9 +4,6 @@ use borrow.Author.Tests.{ne-eqb, le-leb, lt-leb}
 use borrow.Author.Needs.{needs}
 use Rattle.sent.proofs.ack.Ack.heard_at.Statement.{statement}
 use Rattle.sent.proofs.ack.Ack.heard_at.Tie as tie
-use Rattle.sent.proofs.ack.Ack.heard_at.Reads as reads
-use Rattle.sent.proofs.ack.Ack.heard_at.Lts as lts
-use Rattle.packet.proofs.sack.is_set.Reads as is-set-reads
 
 returns : tie.Need-returns
 returns c = simp (c .if1 .taken)

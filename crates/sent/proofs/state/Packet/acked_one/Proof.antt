@@ -2,8 +2,6 @@
 use borrow.Author.Tests.{eq-eqb, ne-eqb}
 use Rattle.sent.proofs.state.Packet.acked_one.Statement.{statement}
 use Rattle.sent.proofs.state.Packet.acked_one.Tie as tie
-use Rattle.sent.proofs.state.Packet.acked_one.Reads as reads
-use Rattle.sent.proofs.state.Packet.acked_one.Lts as lts
 
 returns : tie.Need-returns
 returns c = simp (eq-eqb _ _ (c .if1 .taken))

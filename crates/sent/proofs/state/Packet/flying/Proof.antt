@@ -2,8 +2,6 @@
 use borrow.Author.Tests.{eq-eqb, ne-eqb}
 use Rattle.sent.proofs.state.Packet.flying.Statement.{statement}
 use Rattle.sent.proofs.state.Packet.flying.Tie as tie
-use Rattle.sent.proofs.state.Packet.flying.Reads as reads
-use Rattle.sent.proofs.state.Packet.flying.Lts as lts
 
 returns : tie.Need-returns
 returns c = simp (eq-eqb _ _ (c .if1 .taken))

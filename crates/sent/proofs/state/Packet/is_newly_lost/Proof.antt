@@ -5,9 +5,6 @@ use lib.Dec.{eqb}
 use borrow.Author.Needs.{needs}
 use Rattle.sent.proofs.state.Packet.is_newly_lost.Statement.{statement}
 use Rattle.sent.proofs.state.Packet.is_newly_lost.Tie as tie
-use Rattle.sent.proofs.state.Packet.is_newly_lost.Reads as reads
-use Rattle.sent.proofs.state.Packet.is_newly_lost.Lts as lts
-use Rattle.sent.proofs.state.Packet.is_lost.Reads as is-lost-reads
 
 is-lost-requires : tie.Need-is-lost-requires
 is-lost-requires c κs = search needs

@@ -3,9 +3,6 @@ use mathlib.Core.Path.{sym}
 use borrow.Author.Needs.{needs}
 use Rattle.sent.proofs.state.Packet.lost_mark.Statement.{statement}
 use Rattle.sent.proofs.state.Packet.lost_mark.Tie as tie
-use Rattle.sent.proofs.state.Packet.lost_mark.Reads as reads
-use Rattle.sent.proofs.state.Packet.lost_mark.Lts as lts
-use Rattle.sent.proofs.state.Packet.is_lost.Reads as is-lost-reads
 
 is-lost-requires : tie.Need-is-lost-requires
 is-lost-requires c κs = search needs

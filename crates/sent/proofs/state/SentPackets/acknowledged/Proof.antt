@@ -1,9 +1,8 @@
 -- `acknowledged` meets its contract: what was heard is what document 01 names, by a sample that is taken once. Where nothing was newly acknowledged, no loss
 -- is new and no place is free, so only the clock is set.
-use mathlib.Core.Path.{_≡_, refl, sym, ap, ap₂, _∙_}
-use mathlib.Core.Bool.{Bool, true, false}
+use mathlib.Core.Path.{_≡_, sym, ap, _∙_}
 use mathlib.Core.List.{List, _++_}
-use Prim.Native.Nat.{ℕ, _≤_, _<_, _-_, _+_}
+use Prim.Native.Nat.{ℕ, _≤_, _-_, _+_}
 use native.Mathlib.Omega.{arith}
 use denote.Ref.{now}
 use lib.ListN.{length, length-map, take, drop}
@@ -15,22 +14,12 @@ use Rattle.sent.specs.declared.state.SentPackets.{SentPackets}
 use Rattle.sent.specs.declared.ack.Heard.{Heard}
 use Rattle.sent.specs.Ack.{fromUnacked}
 use Rattle.sent.specs.Hear.{lossHeardOf}
-use Rattle.sent.specs.State.{stateSoundOf}
 use Rattle.sent.specs.Laws.Sound.{state-counts}
 use Rattle.sent.specs.Laws.Transmit.{stateWith}
 use Rattle.sent.specs.Laws.AckState.{heardOn, quiet, loud}
 use borrow.Author.Needs.{needs}
 use Rattle.sent.proofs.state.SentPackets.acknowledged.Statement.{statement}
 use Rattle.sent.proofs.state.SentPackets.acknowledged.Tie as tie
-use Rattle.sent.proofs.state.SentPackets.acknowledged.Reads as reads
-use Rattle.sent.proofs.state.SentPackets.acknowledged.Lts as lts
-use Rattle.congestion.proofs.delays.Delays.base.Reads as base-reads
-use Rattle.congestion.proofs.delays.Delays.take.Reads as take-reads
-use Rattle.congestion.proofs.numbers.Numbers.accepted.Reads as accepted-reads
-use Rattle.sent.proofs.ack.acked_run.Reads as acked-run-reads
-use Rattle.sent.proofs.ack.hear.Reads as hear-reads
-use Rattle.sent.proofs.ack.lose.Reads as lose-reads
-use Rattle.sent.proofs.ack.moved_down.Reads as moved-down-reads
 
 full : (c : tie.Start) → length (c .args .self .packets) ≡ 512
 full c = sym (length-map (c .args .self .packets) _) ∙ c .good .0 .1 .1 .1 .1 .1 .1 .1 .0 .1 .0 .1

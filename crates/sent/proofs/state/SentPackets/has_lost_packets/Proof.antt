@@ -1,9 +1,9 @@
 -- `has_lost_packets` meets its contract: the list has one where one is counted.
-use mathlib.Core.Path.{_≡_, refl, sym, ap, _∙_}
-use mathlib.Core.Bool.{Bool, true, false, cond}
+use mathlib.Core.Path.{_≡_, sym, ap, _∙_}
+use mathlib.Core.Bool.{true, false}
 use borrow.Author.Tests.{not-true, not-false}
 use Rattle.sent.specs.State.{stateSoundOf}
-use Prim.Native.Nat.{ℕ, _≤_, _-_, _+_}
+use Prim.Native.Nat.{ℕ, _≤_, _-_}
 use native.Mathlib.Omega.{arith}
 use lib.ListN.{length, length-map, take}
 use Rattle.common.specs.Answer.{done}
@@ -15,10 +15,6 @@ use Rattle.sent.specs.Laws.LostState.{count-all}
 use borrow.Author.Needs.{needs}
 use Rattle.sent.proofs.state.SentPackets.has_lost_packets.Statement.{statement}
 use Rattle.sent.proofs.state.SentPackets.has_lost_packets.Tie as tie
-use Rattle.sent.proofs.state.SentPackets.has_lost_packets.Reads as reads
-use Rattle.sent.proofs.state.SentPackets.has_lost_packets.Lts as lts
-use Rattle.sent.proofs.lost.lost_between.Reads as lost-between-reads
-use Rattle.sent.proofs.state.SentPackets.sound.Reads as sound-reads
 
 unsound : (c : tie.Then1) → stateSoundOf (c .before .before .args .self) ≡ false
 unsound c = sym (c .before .sound .ensures) ∙ not-true _ (c .if1 .taken)

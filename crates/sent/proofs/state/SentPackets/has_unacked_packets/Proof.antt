@@ -1,15 +1,12 @@
 -- `has_unacked_packets` meets its contract: the first kept packet is unacknowledged, so one is where one is kept.
 use Rattle.sent.specs.Read.{hasUnackedIn}
-use mathlib.Core.Path.{_≡_, refl, sym, ap, _∙_}
-use mathlib.Core.Bool.{Bool, true, false, cond}
+use mathlib.Core.Path.{_≡_, sym, ap, _∙_}
+use mathlib.Core.Bool.{true, false}
 use borrow.Author.Tests.{not-true, not-false}
 use Rattle.sent.specs.State.{stateSoundOf}
-use Prim.Native.Nat.{ℕ, _≤_, _-_, _+_}
-use native.Mathlib.Omega.{arith}
+use Prim.Native.Nat.{ℕ, _≤_, _-_}
 use lib.ListN.{length, length-map, take}
 use Rattle.common.specs.Answer.{done}
-use Rattle.packet.specs.declared.seq.SeqNum.{SeqNum}
-use Rattle.packet.specs.Seq.{plusOf}
 use Rattle.sent.specs.Laws.Sound.{unsound-refused, read-sound, state-counts}
 use mathlib.Core.Bool.{not}
 use lib.Dec.{eqb}
@@ -17,9 +14,6 @@ use Rattle.sent.specs.Laws.Sound.{state-facts, some-unacked}
 use borrow.Author.Needs.{needs}
 use Rattle.sent.proofs.state.SentPackets.has_unacked_packets.Statement.{statement}
 use Rattle.sent.proofs.state.SentPackets.has_unacked_packets.Tie as tie
-use Rattle.sent.proofs.state.SentPackets.has_unacked_packets.Reads as reads
-use Rattle.sent.proofs.state.SentPackets.has_unacked_packets.Lts as lts
-use Rattle.sent.proofs.state.SentPackets.sound.Reads as sound-reads
 
 unsound : (c : tie.Then1) → stateSoundOf (c .before .before .args .self) ≡ false
 unsound c = sym (c .before .sound .ensures) ∙ not-true _ (c .if1 .taken)

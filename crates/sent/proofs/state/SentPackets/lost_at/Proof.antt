@@ -1,13 +1,13 @@
 -- `lost_at` meets its contract: past the wrap come first, so the position is looked for there and then before it.
-use mathlib.Core.Path.{_≡_, refl, sym, ap, _∙_}
-use mathlib.Core.Bool.{Bool, true, false, cond}
+use mathlib.Core.Path.{_≡_, sym, ap, _∙_}
+use mathlib.Core.Bool.{true, false}
 use borrow.Author.Tests.{not-true, not-false}
 use Rattle.sent.specs.State.{stateSoundOf}
 use Prim.Native.Nat.{ℕ, _≤_, _-_, _+_}
 use native.Mathlib.Omega.{arith}
 use lib.ListN.{length, length-map, take}
 use Rattle.common.specs.Answer.{done}
-use Rattle.sent.specs.Laws.Sound.{unsound-refused, read-sound, state-counts}
+use Rattle.sent.specs.Laws.Sound.{unsound-refused, state-counts}
 use mathlib.Core.Path.{ap₂}
 use Prim.Native.Nat.{_<_}
 use lib.ListN.{getD}
@@ -23,14 +23,6 @@ use Rattle.sent.specs.Laws.LostState.{none-there, one-there}
 use borrow.Author.Needs.{needs}
 use Rattle.sent.proofs.state.SentPackets.lost_at.Statement.{statement}
 use Rattle.sent.proofs.state.SentPackets.lost_at.Tie as tie
-use Rattle.sent.proofs.state.SentPackets.lost_at.Reads as reads
-use Rattle.sent.proofs.state.SentPackets.lost_at.Lts as lts
-use Rattle.packet.proofs.seq.SeqNum.plus.Reads as plus-reads
-use Rattle.sent.proofs.lost.lost_between.Reads as lost-between-reads
-use Rattle.sent.proofs.lost.place_at.Reads as place-at-reads
-use Rattle.sent.proofs.lost.type_of.Reads as type-of-reads
-use Rattle.sent.proofs.lost.wrap_place.Reads as wrap-place-reads
-use Rattle.sent.proofs.state.SentPackets.sound.Reads as sound-reads
 
 unsound : (c : tie.Then1) → stateSoundOf (c .before .before .args .self) ≡ false
 unsound c = sym (c .before .sound .ensures) ∙ not-true _ (c .if1 .taken)

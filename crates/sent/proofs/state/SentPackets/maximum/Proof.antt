@@ -1,16 +1,13 @@
 -- `maximum` meets its contract: the field, of a sound state.
 use Rattle.sent.specs.Read.{maximumIn}
-use mathlib.Core.Path.{_≡_, refl, sym, ap, _∙_}
-use mathlib.Core.Bool.{Bool, true, false, cond}
+use mathlib.Core.Path.{_≡_, sym, _∙_}
+use mathlib.Core.Bool.{true, false}
 use borrow.Author.Tests.{not-true, not-false}
 use Rattle.sent.specs.State.{stateSoundOf}
 use Rattle.sent.specs.Laws.Sound.{unsound-refused, read-sound}
 use borrow.Author.Needs.{needs}
 use Rattle.sent.proofs.state.SentPackets.maximum.Statement.{statement}
 use Rattle.sent.proofs.state.SentPackets.maximum.Tie as tie
-use Rattle.sent.proofs.state.SentPackets.maximum.Reads as reads
-use Rattle.sent.proofs.state.SentPackets.maximum.Lts as lts
-use Rattle.sent.proofs.state.SentPackets.sound.Reads as sound-reads
 
 unsound : (c : tie.Then1) → stateSoundOf (c .before .before .args .self) ≡ false
 unsound c = sym (c .before .sound .ensures) ∙ not-true _ (c .if1 .taken)

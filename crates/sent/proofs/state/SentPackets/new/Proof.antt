@@ -1,7 +1,6 @@
 -- `new` meets its contract: the numbers and the samples are those of the controller's start.
-use mathlib.Core.Path.{_≡_, refl, sym, ap, ap₂, _∙_}
+use mathlib.Core.Path.{_≡_, sym, ap, ap₂, _∙_}
 use mathlib.Core.Bool.{Bool, true, false, cond}
-use Prim.Native.Nat.{ℕ}
 use lib.ListN.{replicate}
 use Rattle.common.specs.Answer.{done, refused}
 use Rattle.packet.specs.declared.seq.SeqNum.{SeqNum}
@@ -17,11 +16,6 @@ use Rattle.sent.specs.State.{freshOf}
 use borrow.Author.Needs.{needs}
 use Rattle.sent.proofs.state.SentPackets.new.Statement.{statement}
 use Rattle.sent.proofs.state.SentPackets.new.Tie as tie
-use Rattle.sent.proofs.state.SentPackets.new.Reads as reads
-use Rattle.sent.proofs.state.SentPackets.new.Lts as lts
-use Rattle.congestion.proofs.delays.Delays.none.Reads as none-reads
-use Rattle.congestion.proofs.numbers.Numbers.new.Reads as new-reads
-use Rattle.congestion.proofs.settings.Settings.in_range.Reads as in-range-reads
 
 new-requires : tie.Need-new-requires
 new-requires c κs = search needs

@@ -1,8 +1,7 @@
 -- `on_ack` meets its contract: 19 first, then the checks in their order; a passed one is what `acknowledged` makes of it.
-use mathlib.Core.Path.{_≡_, refl, sym, ap, _∙_}
-use mathlib.Core.Bool.{Bool, true, false, cond}
-use Prim.Native.Nat.{ℕ, _≤_, _<_}
-use native.Mathlib.Omega.{arith}
+use mathlib.Core.Path.{_≡_, sym, ap, _∙_}
+use mathlib.Core.Bool.{true, false}
+use Prim.Native.Nat.{ℕ}
 use denote.Ref.{now}
 use lib.ListN.{length}
 use borrow.Author.Tests.{not-true, not-false}
@@ -16,12 +15,6 @@ use Rattle.sent.specs.Laws.AckState.{ack-checked, ack-refused, ack-done}
 use borrow.Author.Needs.{needs}
 use Rattle.sent.proofs.state.SentPackets.on_ack.Statement.{statement}
 use Rattle.sent.proofs.state.SentPackets.on_ack.Tie as tie
-use Rattle.sent.proofs.state.SentPackets.on_ack.Reads as reads
-use Rattle.sent.proofs.state.SentPackets.on_ack.Lts as lts
-use Rattle.packet.proofs.seq.SeqNum.offset_from.Reads as offset-from-reads
-use Rattle.sent.proofs.ack.ack_check.Reads as ack-check-reads
-use Rattle.sent.proofs.state.SentPackets.acknowledged.Reads as acknowledged-reads
-use Rattle.sent.proofs.state.SentPackets.sound.Reads as sound-reads
 
 unsound : (c : tie.Then1) → stateSoundOf (c .before .before .before .args .self) ≡ false
 unsound c = sym (c .before .sound .ensures) ∙ not-true _ (c .if1 .taken)

@@ -1,9 +1,9 @@
 -- `on_timeout` meets its contract: only the numbers change, and those of a sound state by the rule.
-use mathlib.Core.Path.{_≡_, refl, sym, ap, _∙_}
-use mathlib.Core.Bool.{Bool, true, false, cond}
+use mathlib.Core.Path.{_≡_, sym, ap, _∙_}
+use mathlib.Core.Bool.{true, false}
 use borrow.Author.Tests.{not-true, not-false}
 use Rattle.sent.specs.State.{stateSoundOf}
-use Prim.Native.Nat.{ℕ, _≤_, _-_, _+_}
+use Prim.Native.Nat.{_≤_, _-_}
 use native.Mathlib.Omega.{arith}
 use lib.ListN.{length, length-map, take}
 use Rattle.common.specs.Answer.{done}
@@ -16,10 +16,6 @@ use Rattle.sent.specs.Laws.Sound.{unsound-refused, sound-answered, state
 use borrow.Author.Needs.{needs}
 use Rattle.sent.proofs.state.SentPackets.on_timeout.Statement.{statement}
 use Rattle.sent.proofs.state.SentPackets.on_timeout.Tie as tie
-use Rattle.sent.proofs.state.SentPackets.on_timeout.Reads as reads
-use Rattle.sent.proofs.state.SentPackets.on_timeout.Lts as lts
-use Rattle.congestion.proofs.numbers.Numbers.timed_out.Reads as timed-out-reads
-use Rattle.sent.proofs.state.SentPackets.sound.Reads as sound-reads
 
 unsound : (c : tie.Then1) → stateSoundOf (c .before .before .args .self) ≡ false
 unsound c = sym (c .before .sound .ensures) ∙ not-true _ (c .if1 .taken)

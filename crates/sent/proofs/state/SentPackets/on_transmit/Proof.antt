@@ -1,8 +1,8 @@
 -- `on_transmit` meets its contract: 19 first, then the checks in their order; a passed one is a retransmission up to the last number sent, and else
 -- recorded.
-use mathlib.Core.Path.{_≡_, refl, sym, ap, _∙_}
-use mathlib.Core.Bool.{Bool, true, false, cond}
-use Prim.Native.Nat.{ℕ, _≤_, _<_}
+use mathlib.Core.Path.{_≡_, sym, ap, _∙_}
+use mathlib.Core.Bool.{true, false}
+use Prim.Native.Nat.{ℕ}
 use native.Mathlib.Omega.{arith}
 use lib.ListN.{length, length-map, take}
 use borrow.Author.Tests.{not-true, not-false}
@@ -17,14 +17,6 @@ use Rattle.sent.specs.Laws.Transmit.{room-checked, transmit-refused, tra
 use borrow.Author.Needs.{needs}
 use Rattle.sent.proofs.state.SentPackets.on_transmit.Statement.{statement}
 use Rattle.sent.proofs.state.SentPackets.on_transmit.Tie as tie
-use Rattle.sent.proofs.state.SentPackets.on_transmit.Reads as reads
-use Rattle.sent.proofs.state.SentPackets.on_transmit.Lts as lts
-use Rattle.packet.proofs.header.PacketType.number.Reads as number-reads
-use Rattle.packet.proofs.seq.SeqNum.offset_from.Reads as offset-from-reads
-use Rattle.sent.proofs.state.SentPackets.recorded.Reads as recorded-reads
-use Rattle.sent.proofs.state.SentPackets.resent.Reads as resent-reads
-use Rattle.sent.proofs.state.SentPackets.sound.Reads as sound-reads
-use Rattle.sent.proofs.transmit.transmit_check.Reads as transmit-check-reads
 
 unsound : (c : tie.Then1) → stateSoundOf (c .before .before .args .self) ≡ false
 unsound c = sym (c .before .sound .ensures) ∙ not-true _ (c .if1 .taken)

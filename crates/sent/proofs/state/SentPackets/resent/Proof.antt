@@ -1,21 +1,15 @@
 -- `resent` meets its contract: a packet that is kept gets the mark at its place, and of one that is gone nothing is noted.
-use mathlib.Core.Path.{_≡_, refl, sym, ap, ap₂, _∙_, subst}
-use Prim.Native.Nat.{ℕ, _≤_, _<_, _-_, _+_}
+use mathlib.Core.Path.{_≡_, sym, ap, ap₂, _∙_}
+use Prim.Native.Nat.{_≤_, _-_}
 use native.Mathlib.Omega.{arith}
-use lib.ListN.{length, length-map, take, getD, set}
+use lib.ListN.{length, length-map, take, set}
 use Rattle.congestion.specs.declared.numbers.Numbers.{Numbers}
-use Rattle.congestion.specs.Numbers.{acceptedOf}
 use Rattle.sent.specs.declared.state.Packet.{Packet}
-use Rattle.sent.specs.Tracker.{noPacket}
 use Rattle.sent.specs.Laws.Sound.{state-counts}
 use Rattle.sent.specs.Laws.Transmit.{stateWith, resent-gone, resent-kept}
 use borrow.Author.Needs.{needs}
 use Rattle.sent.proofs.state.SentPackets.resent.Statement.{statement}
 use Rattle.sent.proofs.state.SentPackets.resent.Tie as tie
-use Rattle.sent.proofs.state.SentPackets.resent.Reads as reads
-use Rattle.sent.proofs.state.SentPackets.resent.Lts as lts
-use Rattle.congestion.proofs.numbers.Numbers.accepted.Reads as accepted-reads
-use Rattle.sent.proofs.state.Packet.sent_again.Reads as sent-again-reads
 
 full : (c : tie.Start) → length (c .args .self .packets) ≡ 512
 full c = sym (length-map (c .args .self .packets) _) ∙ c .good .0 .1 .1 .1 .1 .1 .1 .1 .0 .1 .0 .1

@@ -1,23 +1,18 @@
 -- `seq_num_range` meets its contract: from the initial number to the one as far on as packets were sent.
 use Rattle.sent.specs.Read.{seqNumRangeIn}
-use mathlib.Core.Path.{_≡_, refl, sym, ap, _∙_}
-use mathlib.Core.Bool.{Bool, true, false, cond}
+use mathlib.Core.Path.{_≡_, sym, ap, _∙_}
+use mathlib.Core.Bool.{true, false}
 use borrow.Author.Tests.{not-true, not-false}
 use Rattle.sent.specs.State.{stateSoundOf}
-use Prim.Native.Nat.{ℕ, _≤_, _-_, _+_}
+use Prim.Native.Nat.{_≤_, _-_}
 use native.Mathlib.Omega.{arith}
 use lib.ListN.{length, length-map, take}
 use Rattle.common.specs.Answer.{done}
 use Rattle.packet.specs.declared.seq.SeqNum.{SeqNum}
-use Rattle.packet.specs.Seq.{plusOf}
 use Rattle.sent.specs.Laws.Sound.{unsound-refused, read-sound, state-counts}
 use borrow.Author.Needs.{needs}
 use Rattle.sent.proofs.state.SentPackets.seq_num_range.Statement.{statement}
 use Rattle.sent.proofs.state.SentPackets.seq_num_range.Tie as tie
-use Rattle.sent.proofs.state.SentPackets.seq_num_range.Reads as reads
-use Rattle.sent.proofs.state.SentPackets.seq_num_range.Lts as lts
-use Rattle.packet.proofs.seq.SeqNum.plus.Reads as plus-reads
-use Rattle.sent.proofs.state.SentPackets.sound.Reads as sound-reads
 
 unsound : (c : tie.Then1) → stateSoundOf (c .before .before .args .self) ≡ false
 unsound c = sym (c .before .sound .ensures) ∙ not-true _ (c .if1 .taken)

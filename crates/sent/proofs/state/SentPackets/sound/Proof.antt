@@ -1,22 +1,13 @@
 -- `sound` meets its contract: with at most 512 kept, each part of the test is the definition's, in its order.
-use mathlib.Core.Path.{_≡_, refl, sym, ap, _∙_}
-use mathlib.Core.Bool.{Bool, _||_}
-use Prim.Native.Nat.{_≤_}
+use mathlib.Core.Path.{_≡_, sym, ap, _∙_}
 use native.Mathlib.Omega.{arith}
-use lib.Dec.{eqb}
 use lib.ListN.{length, length-map, take}
-use borrow.Author.Tests.{lt-leb, le-leb}
+use borrow.Author.Tests.{lt-leb}
 use Rattle.sent.specs.State.{stateSoundOf}
 use Rattle.sent.specs.Laws.Sound.{sound-by-parts}
 use borrow.Author.Needs.{needs}
 use Rattle.sent.proofs.state.SentPackets.sound.Statement.{statement}
 use Rattle.sent.proofs.state.SentPackets.sound.Tie as tie
-use Rattle.sent.proofs.state.SentPackets.sound.Reads as reads
-use Rattle.sent.proofs.state.SentPackets.sound.Lts as lts
-use Rattle.congestion.proofs.delays.Delays.sound.Reads as delays-Delays-sound-reads
-use Rattle.congestion.proofs.numbers.Numbers.sound.Reads as numbers-Numbers-sound-reads
-use Rattle.sent.proofs.state.Packet.unacked.Reads as unacked-reads
-use Rattle.sent.proofs.state.walked.Reads as walked-reads
 
 full : (c : tie.Start) → length (c .args .self .packets) ≡ 512
 full c = sym (length-map (c .args .self .packets) _) ∙ c .good .0 .1 .1 .1 .1 .1 .1 .1 .0 .1 .0 .1

@@ -1,7 +1,7 @@
 -- `window` meets its contract: what the numbers of a sound state say is free.
 use Rattle.sent.specs.Read.{windowIn}
-use mathlib.Core.Path.{_≡_, refl, sym, ap, _∙_}
-use mathlib.Core.Bool.{Bool, true, false, cond}
+use mathlib.Core.Path.{_≡_, sym, ap, _∙_}
+use mathlib.Core.Bool.{true, false}
 use borrow.Author.Tests.{not-true, not-false}
 use Rattle.sent.specs.State.{stateSoundOf}
 use Rattle.common.specs.Answer.{done}
@@ -9,10 +9,6 @@ use Rattle.sent.specs.Laws.Sound.{unsound-refused, read-sound}
 use borrow.Author.Needs.{needs}
 use Rattle.sent.proofs.state.SentPackets.window.Statement.{statement}
 use Rattle.sent.proofs.state.SentPackets.window.Tie as tie
-use Rattle.sent.proofs.state.SentPackets.window.Reads as reads
-use Rattle.sent.proofs.state.SentPackets.window.Lts as lts
-use Rattle.congestion.proofs.numbers.Numbers.free_window.Reads as free-window-reads
-use Rattle.sent.proofs.state.SentPackets.sound.Reads as sound-reads
 
 unsound : (c : tie.Then1) → stateSoundOf (c .before .before .args .self) ≡ false
 unsound c = sym (c .before .sound .ensures) ∙ not-true _ (c .if1 .taken)
