@@ -3,3 +3,5 @@ pub mod Cases
 pub mod Moves
 pub mod Table
 pub mod State
+pub mod Steps
+pub mod Answers

@@ -1,4 +1,7 @@
 -- The port's reading of document 01 on receiving.
 pub mod Table
 pub mod State
+pub mod Receiver
+pub mod Calls
+pub mod Marked
 pub mod Laws

@@ -4,6 +4,7 @@ ghost use mathlib.Core.Path.{_≡_};
 ghost use Prim.Native.Nat.{_+_, _≤_};
 ghost use lib.ListN.{length, drop};
 ghost use lib.Seq.{paste};
+ghost use Rattle.recv.specs.Laws.Steps.{insertedOf};
 
 // Copies the first `count` bytes of `src` into `dst` from `at` on.
 pub fn copy(dst: &mut [u8], at: usize, src: &[u8], count: usize)
@@ -39,4 +40,14 @@ pub fn move_up(buf: &mut [u8], from: usize, count: usize, by: usize)
         left -= 1;
         buf[from + by + left] = buf[from + left];
     }
+}
+
+// Puts `payload` in at `at`, before the `count` bytes that stand there, which move up.
+pub fn insert(buf: &mut [u8], at: usize, count: usize, payload: &[u8])
+    requires { ⌜ at + length (now payload) + count ≤ length (now buf) ⌝ }
+    ensures { λ _. ⌜ now (buf .exit) ≡ insertedOf (now (buf .entry)) at count (now (payload .entry)) ⌝ }
+{
+    let n = payload.len();
+    move_up(buf, at, count, n);
+    copy(buf, at, payload, n);
 }

@@ -6,7 +6,9 @@ mod bytes;
 mod waiting;
 
 ghost use mathlib.Core.Path.{_≡_};
-ghost use Prim.Native.Nat.{_≤_};
+ghost use Prim.Native.Nat.{_≤_, _<_};
+ghost use Rattle.recv.specs.Calls.{answerOf, writtenOf, writtenRoomOf};
+ghost use Rattle.recv.specs.Laws.Steps.{Placeable, placedOf};
 ghost use Rattle.recv.specs.State.{soundOf, createdOf, noReceiverOf, countedOf, toldOf, numberedOf, ackOf, writtenBefore, emptyOf, tableOf};
 ghost use Rattle.recv.specs.Table.{bytesIn, howMany, thereOf, freeOf};
 
@@ -50,6 +52,25 @@ pub enum Creation {
 // The answer, and beside it the receiver; with a refusal, a state of length 0, which no call takes.
 pub struct Created {
     pub answer: Creation,
+    pub state: ReceiveBuffer,
+}
+
+// What a write answers.
+pub enum Writing {
+    Stored,
+    AlreadyThere,
+    Refused(Refusal),
+}
+
+// The answer of a write, and beside it the receiver.
+pub struct Written {
+    pub answer: Writing,
+    pub state: ReceiveBuffer,
+}
+
+// How many bytes a read took, or why none; and beside it the receiver.
+pub struct Taken {
+    pub answer: Count,
     pub state: ReceiveBuffer,
 }
 
@@ -129,6 +150,29 @@ impl ReceiveBuffer {
         Created {
             answer: Creation::Made,
             state,
+        }
+    }
+
+    // Stores `payload` under `number`, and moves every next waiting payload to ready. A number that is
+    // already there changes nothing. Refusals: 19, 18, 15, 16, 17.
+    pub fn write(self, buf: &mut [u8], number: SeqNum, payload: &[u8]) -> Written
+        ensures { λ r. ⌜ (r ≡ writtenOf self (now (buf .entry)) number (now (payload .entry))) × (now (buf .exit) ≡ writtenRoomOf self (now (buf .entry)) number (now (payload .entry))) ⌝ }
+    {
+        let answer = self.writing(buf.len(), number, payload.len());
+        if let Writing::Stored = answer {
+            let initial = self.initial;
+            let offset = number.offset_from(initial);
+            let place = (offset.0 as u32 - self.count - 1) as usize;
+            let span = self.span as usize;
+            let held = waiting::bytes_in(&self.waiting, span) as usize;
+            let before = waiting::bytes_before(&self.waiting, span, place) as usize;
+            bytes::insert(buf, self.ready as usize + before, held - before, payload);
+            let state = self.placed(place, payload.len() as u32);
+            return Written { answer, state };
+        }
+        Written {
+            answer,
+            state: self,
         }
     }
 
@@ -234,6 +278,104 @@ impl ReceiveBuffer {
             Count::Is(waiting::bytes_in(&self.waiting, self.span as usize) as usize)
         } else {
             Count::Refused(Refusal::NotSound)
+        }
+    }
+
+    // What a write of `n` bytes under `number` answers, over a buffer of `size` bytes.
+    fn writing(self, size: usize, number: SeqNum, n: usize) -> Writing
+        ensures { λ r. ⌜ r ≡ answerOf self size number n ⌝ }
+    {
+        if !self.is_sound() {
+            return Writing::Refused(Refusal::NotSound);
+        }
+        if size != self.length as usize {
+            return Writing::Refused(Refusal::OtherLength);
+        }
+        let initial = self.initial;
+        let distance = number.offset_from(initial);
+        let offset = distance.0 as u32;
+        if self.is_there(offset) {
+            return Writing::AlreadyThere;
+        }
+        if offset > 60000 {
+            return Writing::Refused(Refusal::PastLimit);
+        }
+        if offset > self.count + 256 {
+            return Writing::Refused(Refusal::TooFarAhead);
+        }
+        let held = waiting::bytes_in(&self.waiting, self.span as usize) as usize;
+        if n > (self.length - self.ready) as usize - held {
+            return Writing::Refused(Refusal::PayloadTooLong);
+        }
+        Writing::Stored
+    }
+
+    // The state with a payload of `n` bytes stored at `place`, and every next waiting one ready.
+    fn placed(self, place: usize, n: u32) -> ReceiveBuffer
+        requires { ⌜ Placeable self place n ⌝ }
+        ensures { λ r. ⌜ r ≡ placedOf self place n ⌝ }
+    {
+        if place != 0 {
+            return self.kept(place, n);
+        }
+        if self.span == 0 {
+            let mut state = self;
+            state.count = self.count + 1;
+            state.ready = self.ready + n;
+            return state;
+        }
+        self.moved(n)
+    }
+
+    // The same where place 0 is filled and others wait: they move to ready as far as no gap comes.
+    fn moved(self, n: u32) -> ReceiveBuffer
+        requires { ⌜ (Placeable self 0 n) × (0 < self .span) ⌝ }
+        ensures { λ r. ⌜ r ≡ placedOf self 0 n ⌝ }
+    {
+        let span = self.span as usize;
+        let run = 1 + waiting::run_past_first(&self.waiting, span);
+        let bytes = waiting::bytes_in(&self.waiting, run) as u32;
+        let initial = self.initial;
+        let mut waiting = self.waiting;
+        waiting::shift_down(&mut waiting, run, span - run);
+        ReceiveBuffer {
+            initial,
+            length: self.length,
+            count: self.count + run as u32,
+            ready: self.ready + n + bytes,
+            span: (span - run) as u32,
+            waiting,
+        }
+    }
+
+    // The same past a gap: the payload waits.
+    fn kept(self, place: usize, n: u32) -> ReceiveBuffer
+        requires { ⌜ (Placeable self place n) × (0 < place) ⌝ }
+        ensures { λ r. ⌜ r ≡ placedOf self place n ⌝ }
+    {
+        let span = self.span as usize;
+        let initial = self.initial;
+        let mut waiting = self.waiting;
+        if place < span {
+            waiting[place] = n + 1;
+            return ReceiveBuffer {
+                initial,
+                length: self.length,
+                count: self.count,
+                ready: self.ready,
+                span: self.span,
+                waiting,
+            };
+        }
+        waiting::clear(&mut waiting, span, place - span);
+        waiting[place] = n + 1;
+        ReceiveBuffer {
+            initial,
+            length: self.length,
+            count: self.count,
+            ready: self.ready,
+            span: (place + 1) as u32,
+            waiting,
         }
     }
 

@@ -3,8 +3,9 @@
 ghost use mathlib.Core.Path.{_≡_};
 ghost use Prim.Native.Nat.{_+_, _-_, _≤_, _<_, _^_};
 ghost use mathlib.Core.Bool.{cond};
-ghost use lib.ListN.{take};
-ghost use Rattle.recv.specs.Table.{waits, bytesIn, howMany, waitsAt};
+ghost use lib.ListN.{length, take, drop, replicate};
+ghost use lib.Seq.{paste};
+ghost use Rattle.recv.specs.Table.{waits, bytesIn, howMany, runOf, waitsAt};
 
 // The length of the payload that an entry stands for.
 fn length_of(entry: u32) -> u64
@@ -67,5 +68,55 @@ pub fn waits_at(waiting: &[u32; 256], span: usize, count: u32, offset: u32) -> b
         waiting[place] != 0
     } else {
         false
+    }
+}
+
+// How many bytes the payloads at the first `place` of the first `span` places hold.
+pub fn bytes_before(waiting: &[u32; 256], span: usize, place: usize) -> u64
+    requires { ⌜ span ≤ 256 ⌝ }
+    ensures { λ r. ⌜ r ≡ bytesIn (take place (take span (now (waiting .entry)))) ⌝ }
+{
+    if place < span {
+        return bytes_in(waiting, place);
+    }
+    bytes_in(waiting, span)
+}
+
+// How many of the first `span` places wait, one behind the other, from place 1 on.
+pub fn run_past_first(waiting: &[u32; 256], span: usize) -> usize
+    requires { ⌜ span ≤ 256 ⌝ }
+    ensures { λ r. ⌜ r ≡ runOf (drop 1 (take span (now (waiting .entry)))) ⌝ }
+{
+    let mut place: usize = 1;
+    while place < span {
+        if waiting[place] == 0 {
+            return place - 1;
+        }
+        place += 1;
+    }
+    place - 1
+}
+
+// Moves the `count` entries from `from` on down to the front.
+pub fn shift_down(waiting: &mut [u32; 256], from: usize, count: usize)
+    requires { ⌜ (from + count ≤ 256) × (length (now waiting) ≡ 256) ⌝ }
+    ensures { λ _. ⌜ now (waiting .exit) ≡ paste (now (waiting .entry)) 0 (drop from (now (waiting .entry))) count ⌝ }
+{
+    let mut done: usize = 0;
+    while done < count {
+        waiting[done] = waiting[from + done];
+        done += 1;
+    }
+}
+
+// Sets `count` entries from `from` on to 0.
+pub fn clear(waiting: &mut [u32; 256], from: usize, count: usize)
+    requires { ⌜ (from + count ≤ 256) × (length (now waiting) ≡ 256) ⌝ }
+    ensures { λ _. ⌜ now (waiting .exit) ≡ paste (now (waiting .entry)) from (replicate count 0) count ⌝ }
+{
+    let mut done: usize = 0;
+    while done < count {
+        waiting[from + done] = 0;
+        done += 1;
     }
 }

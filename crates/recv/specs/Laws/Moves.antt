@@ -2,11 +2,11 @@
 use Prim.Native.Nat.{ℕ, zero, suc, _+_, _-_, _≤_, _<_}
 use mathlib.Core.Path.{_≡_, refl, ap, sym, _∙_, subst}
 use mathlib.Core.List.{List, [], _∷_, _++_, append-assoc}
-use native.Mathlib.Nat.{zero-add, suc-add, add-suc}
+use native.Mathlib.Nat.{zero-add, suc-add, add-suc, sub-zero, zero-sub, suc-sub-suc}
 use native.Mathlib.Numerals.{add-one}
 use native.Mathlib.Omega.{arith}
 use lib.ListN.{length, take, drop, set, getD, length-append, length-take, length-drop, length-set, List·getD-append}
-use lib.Seq.{paste, paste-suc, paste-zero, length-paste-head, length-take-le, getD-append-add, getD-take, getD-drop, set-append-left, take-set-lt, take-suc-set, append-snoc, drop-cons}
+use lib.Seq.{paste, paste-suc, paste-zero, length-paste-head, length-take-le, getD-append-add, getD-take, getD-drop, set-append-left, take-set-lt, take-suc-set, append-snoc, drop-cons, take-append-le, take-take, drop-at, take-length, take-nil}
 
 -- the same run at equal places
 pub paste-at : (d : List ℕ) (at at′ from from′ n n′ : ℕ) → at ≡ at′ → from ≡ from′ → n ≡ n′ → paste d at (drop from d) n ≡ paste d at′ (drop from′ d) n′
@@ -53,9 +53,9 @@ paste-front d p s m v h =
     let e : suc p + m ≡ p + suc m = omega arith in
     set-append-left (take (suc p) d ++ take m s) (drop (suc p + m) d) p v head
     ∙ ap (λ (l : List ℕ). l ++ drop (suc p + m) d)
-        (set-append-left (take (suc p) d) (take m s) p v front
-        ∙ ap (λ (l : List ℕ). l ++ take m s) (sym (take-set-lt (suc p) d p v (omega arith)) ∙ take-suc-set d p v h)
-        ∙ append-snoc (take p d) v (take m s))
+    (set-append-left (take (suc p) d) (take m s) p v front
+    ∙ ap (λ (l : List ℕ). l ++ take m s) (sym (take-set-lt (suc p) d p v (omega arith)) ∙ take-suc-set d p v h)
+    ∙ append-snoc (take p d) v (take m s))
     ∙ ap (λ (n : ℕ). (take p d ++ v ∷ take m s) ++ drop n d) e
 
 -- one more at the front of a run that moves up within its own list
@@ -70,3 +70,33 @@ paste-up d q p m le h =
     ∙ paste-front d p s m (getD d q 0) h
     ∙ ap (λ (l : List ℕ). paste d p l (suc m)) whole
     ∙ ap (λ (n : ℕ). paste d p (drop q d) n) (sym (add-one m))
+
+-- ---- a run moved up and another put in before it
+
+pub inserted : (d : List ℕ) (at count : ℕ) (p : List ℕ) → at + length p + count ≤ length d
+    → paste (paste d (at + length p) (drop at d) count) at p (length p)
+    ≡ (take at d ++ p) ++ (take count (drop at d) ++ drop (at + length p + count) d)
+inserted d at count p h =
+    let n = length p in
+    let tail = take count (drop at d) ++ drop (at + n + count) d in
+    let moved : paste d (at + n) (drop at d) count ≡ take (at + n) d ++ tail = append-assoc (take (at + n) d) (take count (drop at d)) (drop (at + n + count) d) in
+    let front : length (take (at + n) d) ≡ at + n = length-take-le (at + n) d (omega arith) in
+    let before : take at (take (at + n) d ++ tail) ≡ take at d = take-append-le at (take (at + n) d) tail (omega arith) ∙ take-take at (at + n) d (omega arith) in
+    let behind : drop (at + n) (take (at + n) d ++ tail) ≡ tail = drop-at (take (at + n) d) tail (at + n) front in
+    ap (λ (l : List ℕ). paste l at p n) moved
+    ∙ ap (λ (l : List ℕ). (l ++ take n p) ++ drop (at + n) (take (at + n) d ++ tail)) before
+    ∙ ap (λ (l : List ℕ). (take at d ++ l) ++ drop (at + n) (take (at + n) d ++ tail)) (take-length p)
+    ∙ ap (λ (l : List ℕ). (take at d ++ p) ++ l) behind
+
+-- ---- a list over the front of another
+
+pub over-front : (n : ℕ) (l : List ℕ) → take n l ++ drop (length (take n l)) l ≡ l
+over-front zero l = refl
+over-front (suc n) [] = refl
+over-front (suc n) (x ∷ l) = ap (λ (r : List ℕ). x ∷ r) (over-front n l)
+
+pub drop-take : (k n : ℕ) (l : List ℕ) → drop k (take n l) ≡ take (n - k) (drop k l)
+drop-take zero n l = ap (λ (m : ℕ). take m l) (sym (sub-zero n))
+drop-take (suc k) zero l = sym (ap (λ (m : ℕ). take m (drop (suc k) l)) (zero-sub (suc k)))
+drop-take (suc k) (suc n) [] = sym (take-nil (suc n - suc k))
+drop-take (suc k) (suc n) (x ∷ l) = drop-take k n l ∙ ap (λ (m : ℕ). take m (drop k l)) (sym (suc-sub-suc n k))

@@ -1,5 +1,5 @@
 -- Laws of the table of waiting lengths.
-use Prim.Native.Nat.{ℕ, zero, suc, _+_, _-_, _*_, _≤_, _<_}
+use Prim.Native.Nat.{ℕ, zero, suc, _+_, _-_, _*_, _≤_, _<_, zero-le}
 use mathlib.Core.Path.{_≡_, refl, ap, sym, _∙_}
 use mathlib.Core.Bool.{Bool, true, false, cond, not, _&&_}
 use mathlib.Core.List.{List, [], _∷_, _++_}
@@ -7,8 +7,8 @@ use native.Mathlib.Nat.{zero-add, add-zero, add-assoc, not-suc-le-zero, le-of-su
 use native.Mathlib.Omega.{arith}
 use borrow.Author.Tests.{le-leb, lt-leb, lt-ltb, le-ltb, ne-eqb}
 use lib.Dec.{eqb}
-use lib.ListN.{length, take, drop, getD, length-take, List·getD-eq-default}
-use lib.Seq.{getD-take}
+use lib.ListN.{length, take, drop, getD, length-take, drop-of-length-le, List·getD-eq-default}
+use lib.Seq.{getD-take, drop-nil}
 use Rattle.recv.specs.Table.{waits, bytesIn, howMany, lastWaits, runOf, waitsAt, thereOf}
 
 pub bytesIn-take-suc : (l : List ℕ) (i : ℕ) → bytesIn (take (suc i) l) ≡ bytesIn (take i l) + (getD l i 0 - 1)
@@ -16,6 +16,11 @@ bytesIn-take-suc [] zero = refl
 bytesIn-take-suc [] (suc i) = refl
 bytesIn-take-suc (x ∷ xs) zero = omega arith
 bytesIn-take-suc (x ∷ xs) (suc i) = ap (λ (n : ℕ). (x - 1) + n) (bytesIn-take-suc xs i) ∙ sym (add-assoc (x - 1) (bytesIn (take i xs)) (getD xs i 0 - 1))
+
+pub bytesIn-take-le : (l : List ℕ) (i : ℕ) → bytesIn (take i l) ≤ bytesIn l
+bytesIn-take-le l zero = zero-le
+bytesIn-take-le [] (suc i) = zero-le
+bytesIn-take-le (x ∷ xs) (suc i) = let rest = bytesIn-take-le xs i in omega arith
 
 pub howMany-take-suc : (l : List ℕ) (i : ℕ) → howMany (take (suc i) l) ≡ howMany (take i l) + cond (waits (getD l i 0)) 1 0
 howMany-take-suc [] zero = refl
@@ -45,6 +50,10 @@ lastWaits-take b (x ∷ l) (suc (suc n)) p h =
     less : (m : ℕ) → suc m - 1 ≡ m
     less m = omega arith
 
+pub no-wait : (n : ℕ) → waits n ≡ false → n ≡ 0
+no-wait zero e = refl
+no-wait (suc n) e = cc
+
 pub waits-is : (n : ℕ) → waits n ≡ not (eqb n 0)
 waits-is zero = refl
 waits-is (suc n) = sym (ap not (ne-eqb (suc n) 0 (λ e. omega arith)))
@@ -73,3 +82,22 @@ there-behind c o t h = rw (le-leb o c h)
 pub there-ahead : (c o : ℕ) (t : List ℕ) → c < o → thereOf c t o ≡ waitsAt c t o
 unfolding thereOf
 there-ahead c o t h = rw (lt-leb o c h)
+
+-- ---- the run at the front of what is left of a table
+
+pub run-zero : (l : List ℕ) (n i : ℕ) → getD l i 0 ≡ 0 → runOf (drop i (take n l)) ≡ 0
+run-zero [] zero i e = ap runOf (drop-nil i)
+run-zero [] (suc n) i e = ap runOf (drop-nil i)
+run-zero (x ∷ l) zero i e = ap runOf (drop-nil i)
+run-zero (x ∷ l) (suc n) zero e = rw e
+run-zero (x ∷ l) (suc n) (suc i) e = run-zero l n i e
+
+pub run-more : (l : List ℕ) (n i : ℕ) → i < n → (getD l i 0 ≡ 0 → ⊥) → runOf (drop i (take n l)) ≡ suc (runOf (drop (suc i) (take n l)))
+run-more [] n i h e = absurd (e refl)
+run-more (x ∷ l) zero i h e = absurd (not-suc-le-zero h)
+run-more (zero ∷ l) (suc n) zero h e = absurd (e refl)
+run-more (suc x ∷ l) (suc n) zero h e = refl
+run-more (x ∷ l) (suc n) (suc i) h e = run-more l n i (le-of-suc-le-suc h) e
+
+pub run-past : (l : List ℕ) (n i : ℕ) → n ≤ i → runOf (drop i (take n l)) ≡ 0
+run-past l n i h = ap runOf (drop-of-length-le (take n l) {i = i} (simp length-take (omega arith)))
