@@ -5,3 +5,5 @@ pub mod Table
 pub mod State
 pub mod Steps
 pub mod Answers
+pub mod Payloads
+pub mod Stored

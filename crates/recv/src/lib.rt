@@ -7,7 +7,8 @@ mod waiting;
 
 ghost use mathlib.Core.Path.{_≡_};
 ghost use Prim.Native.Nat.{_≤_, _<_};
-ghost use Rattle.recv.specs.Calls.{answerOf, writtenOf, writtenRoomOf};
+ghost use lib.ListN.{length};
+ghost use Rattle.recv.specs.Calls.{answerOf, afterWrite, stateOf, roomOf, writtenOf, writtenRoomOf};
 ghost use Rattle.recv.specs.Laws.Steps.{Placeable, placedOf};
 ghost use Rattle.recv.specs.State.{soundOf, createdOf, noReceiverOf, countedOf, toldOf, numberedOf, ackOf, writtenBefore, emptyOf, tableOf};
 ghost use Rattle.recv.specs.Table.{bytesIn, howMany, thereOf, freeOf};
@@ -159,20 +160,22 @@ impl ReceiveBuffer {
         ensures { λ r. ⌜ (r ≡ writtenOf self (now (buf .entry)) number (now (payload .entry))) × (now (buf .exit) ≡ writtenRoomOf self (now (buf .entry)) number (now (payload .entry))) ⌝ }
     {
         let answer = self.writing(buf.len(), number, payload.len());
-        if let Writing::Stored = answer {
-            let initial = self.initial;
-            let offset = number.offset_from(initial);
-            let place = (offset.0 as u32 - self.count - 1) as usize;
-            let span = self.span as usize;
-            let held = waiting::bytes_in(&self.waiting, span) as usize;
-            let before = waiting::bytes_before(&self.waiting, span, place) as usize;
-            bytes::insert(buf, self.ready as usize + before, held - before, payload);
-            let state = self.placed(place, payload.len() as u32);
-            return Written { answer, state };
-        }
-        Written {
-            answer,
-            state: self,
+        match answer {
+            Writing::Stored => {
+                let state = self.store(buf, number, payload);
+                Written {
+                    answer: Writing::Stored,
+                    state,
+                }
+            }
+            Writing::AlreadyThere => Written {
+                answer: Writing::AlreadyThere,
+                state: self,
+            },
+            Writing::Refused(why) => Written {
+                answer: Writing::Refused(why),
+                state: self,
+            },
         }
     }
 
@@ -308,6 +311,21 @@ impl ReceiveBuffer {
             return Writing::Refused(Refusal::PayloadTooLong);
         }
         Writing::Stored
+    }
+
+    // Puts `payload` into the buffer at the place of `number`, and answers the state after that.
+    fn store(self, buf: &mut [u8], number: SeqNum, payload: &[u8]) -> ReceiveBuffer
+        requires { ⌜ answerOf self (length (now buf)) number (length (now payload)) ≡ Writing.Stored ⌝ }
+        ensures { λ r. ⌜ (r ≡ stateOf (self .waiting) (afterWrite self (now (buf .entry)) number (now (payload .entry)))) × (now (buf .exit) ≡ roomOf (now (buf .entry)) (afterWrite self (now (buf .entry)) number (now (payload .entry)))) ⌝ }
+    {
+        let initial = self.initial;
+        let offset = number.offset_from(initial);
+        let place = (offset.0 as u32 - self.count - 1) as usize;
+        let span = self.span as usize;
+        let held = waiting::bytes_in(&self.waiting, span) as usize;
+        let before = waiting::bytes_before(&self.waiting, span, place) as usize;
+        bytes::insert(buf, self.ready as usize + before, held - before, payload);
+        self.placed(place, payload.len() as u32)
     }
 
     // The state with a payload of `n` bytes stored at `place`, and every next waiting one ready.

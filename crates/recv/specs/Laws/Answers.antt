@@ -8,14 +8,18 @@ use borrow.Author.Tests.{lt-ltb, le-ltb, ltb-false, eq-eqb, ne-eqb, eqb-true}
 use lib.Dec.{ltb, eqb}
 use Rattle.packet.specs.Seq.{offsetOf}
 use Rattle.packet.specs.declared.seq.SeqNum.{SeqNum}
-use Rattle.recv.specs.Table.{bytesIn, limit, ahead, thereOf, freeOf}
+use lib.ListN.{length, getD}
+use Rattle.recv.specs.Laws.Table.{not-there}
+use Rattle.recv.specs.Laws.State.{Sound, sound-facts}
+use Rattle.recv.specs.Table.{waits, bytesIn, limit, ahead, thereOf, freeOf}
 use Rattle.recv.specs.State.{tableOf, soundOf}
-use Rattle.recv.specs.Receiver.{ruleOf}
-use Rattle.recv.specs.Calls.{answerOf}
+use Rattle.recv.specs.Receiver.{ruleOf, changed}
+use Rattle.recv.specs.Calls.{answerOf, stateOf, roomOf, afterWrite, writtenOf, writtenRoomOf}
 use Rattle.recv.specs.Laws.Cases.{cond-true, cond-false}
 use Rattle.recv.specs.declared.ReceiveBuffer.{ReceiveBuffer}
 use Rattle.recv.specs.declared.Refusal.the-variants.{PastLimit, TooFarAhead, PayloadTooLong, OtherLength, NotSound}
 use Rattle.recv.specs.declared.Writing.{Writing}
+use Rattle.recv.specs.declared.Written.{Written}
 use Rattle.recv.specs.declared.Writing.the-variants.{Stored, AlreadyThere, Refused}
 
 -- ---- the rule, by its tests in their order
@@ -70,6 +74,15 @@ pub record Storable (size c ready : ℕ) (table : List ℕ) (o n : ℕ) : Type 0
   pub near : o ≤ c + 256
   pub short : n ≤ freeOf size ready table
 
+pub record Stores (s : ReceiveBuffer) (size o n : ℕ) : Type 0 where
+  pub sound : Sound s
+  pub same : size ≡ s .length
+  pub past : s .count < o
+  pub low : o ≤ 60000
+  pub near : o ≤ s .count + 256
+  pub new : waits (getD (tableOf s) (o - (s .count + 1)) 0) ≡ false
+  pub room : s .ready + bytesIn (tableOf s) + n ≤ s .length
+
 -- a test whose first case is another answer has failed, and one whose second case is has passed
 failed : (b : Bool) (x y z : Writing) → cond b x y ≡ z → (x ≡ z → ⊥) → (b ≡ false) × (y ≡ z)
 failed true x y z e other = absurd (other e)
@@ -79,8 +92,8 @@ passed : (b : Bool) (x y z : Writing) → cond b x y ≡ z → (y ≡ z → ⊥)
 passed true x y z e other = (refl, e)
 passed false x y z e other = absurd (other e)
 
-not-there : AlreadyThere ≡ Stored → ⊥
-not-there e = let z : _≡_ {A = ℕ} 0 1 = cc in omega arith
+other-answer : AlreadyThere ≡ Stored → ⊥
+other-answer e = let z : _≡_ {A = ℕ} 0 1 = cc in omega arith
 
 not-refused : (r : _) → Refused r ≡ Stored → ⊥
 not-refused r e = let z : _≡_ {A = ℕ} 0 1 = cc in omega arith
@@ -88,7 +101,7 @@ not-refused r e = let z : _≡_ {A = ℕ} 0 1 = cc in omega arith
 pub storable : (size c ready : ℕ) (table : List ℕ) (o n : ℕ) → ruleOf size c ready table o n ≡ Stored → Storable size c ready table o n
 unfolding ruleOf
 storable size c ready table o n e =
-    let f0 = failed _ _ _ _ e not-there in
+    let f0 = failed _ _ _ _ e other-answer in
     let f1 = failed _ _ _ _ (f0 .1) (not-refused _) in
     let f2 = failed _ _ _ _ (f1 .1) (not-refused _) in
     let f3 = failed _ _ _ _ (f2 .1) (not-refused _) in
@@ -114,3 +127,21 @@ module _ (s : ReceiveBuffer) (size : ℕ) (number : SeqNum) (n : ℕ) (e : answe
   pub stored-rule : Storable (s .length) (s .count) (s .ready) (tableOf s) (offsetOf number (s .initial) .0) n
   unfolding ruled
   stored-rule = storable _ _ _ _ _ _ (length-next .1)
+
+  -- all that the code needs to know
+  pub stores : Stores s size (offsetOf number (s .initial) .0) n
+  stores =
+      let rule = stored-rule in
+      let sound = sound-facts s stored-sound in
+      let new = not-there _ _ _ (rule .new) in
+      record { sound = sound; same = stored-length; past = new .0; low = rule .low; near = rule .near; new = new .1; room = omega arith }
+
+-- ---- an answer with the state and the buffer that go with it
+
+module _ (s : ReceiveBuffer) (buf : List ℕ) (number : SeqNum) (payload : List ℕ) (a : Writing) (e : answerOf s (length buf) number (length payload) ≡ a) where
+  pub written-is : (after : ReceiveBuffer) → after ≡ changed a (stateOf (s .waiting) (afterWrite s buf number payload)) s
+      → record { answer = a; state = after } ≡ writtenOf s buf number payload
+  written-is after h = rw (e, h)
+
+  pub written-room-is : (after : List ℕ) → after ≡ changed a (roomOf buf (afterWrite s buf number payload)) buf → after ≡ writtenRoomOf s buf number payload
+  written-room-is after h = rw (e, h)

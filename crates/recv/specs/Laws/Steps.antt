@@ -97,10 +97,10 @@ run-le [] = zero-le
 run-le (zero ∷ t) = zero-le
 run-le (suc x ∷ t) = suc-le-suc (run-le t)
 
-same-state : (i : SeqNum) (m : ℕ) {c c′ r r′ s s′ : ℕ} {w w′ : List ℕ} → c ≡ c′ → r ≡ r′ → s ≡ s′ → w ≡ w′
+pub same-state : (i : SeqNum) (m : ℕ) {c c′ r r′ s s′ : ℕ} {w w′ : List ℕ} → c ≡ c′ → r ≡ r′ → s ≡ s′ → w ≡ w′
     → _≡_ {A = ReceiveBuffer}
-      (record { initial = i; length = m; count = c; ready = r; span = s; waiting = w })
-      (record { initial = i; length = m; count = c′; ready = r′; span = s′; waiting = w′ })
+    (record { initial = i; length = m; count = c; ready = r; span = s; waiting = w })
+    (record { initial = i; length = m; count = c′; ready = r′; span = s′; waiting = w′ })
 same-state i m p q e f = rw (p, q, e, f)
 
 module _ (s : ReceiveBuffer) (n : ℕ) where
@@ -148,10 +148,10 @@ module _ (s : ReceiveBuffer) (n : ℕ) where
           let front : take k (s .waiting) ≡ 0 ∷ take (runOf l) l = sym (take-take k (s .span) (s .waiting) run-fits) ∙ ap (λ (t : List ℕ). take k t) head ∙ ap (λ (m : ℕ). take m (0 ∷ l)) (one-add (runOf l)) in
           ap (λ (t : List ℕ). put-first (s .initial) (s .length) (s .count) (s .ready) t (s .waiting)) head
           ∙ same-state (s .initial) (s .length)
-            (omega arith)
-            (rw front (omega arith))
-            (omega arith)
-            (ap (λ (m : ℕ). drop (runOf l) l ++ drop m (s .waiting)) (cut-length ∙ sym (zero-add (s .span - k))) ∙ ap (λ (t : List ℕ). t ++ drop (0 + (s .span - k)) (s .waiting)) cut)
+          (omega arith)
+          (rw front (omega arith))
+          (omega arith)
+          (ap (λ (m : ℕ). drop (runOf l) l ++ drop m (s .waiting)) (cut-length ∙ sym (zero-add (s .span - k))) ∙ ap (λ (t : List ℕ). t ++ drop (0 + (s .span - k)) (s .waiting)) cut)
         where
           put-first : SeqNum → ℕ → ℕ → ℕ → List ℕ → List ℕ → ReceiveBuffer
           put-first i m c r table w =
@@ -168,11 +168,11 @@ module _ (s : ReceiveBuffer) (n : ℕ) where
         let t = tableOf s in
         let held : length t ≡ s .span = length-take-le (s .span) (s .waiting) all in
         rw (run-put t i (suc n) first) (
-          same-state (s .initial) (s .length)
-          (omega arith)
-          (omega arith)
-          (sub-zero _ ∙ length-put-in 0 (suc n) t (suc i) (rw held f) ∙ held)
-          (over-put-in 0 (suc n) (s .waiting) (s .span) (suc i) f all ∙ ap (λ (v : ℕ). set (s .waiting) (suc i) v) (sym (add-one n)))
+        same-state (s .initial) (s .length)
+        (omega arith)
+        (omega arith)
+        (sub-zero _ ∙ length-put-in 0 (suc n) t (suc i) (rw held f) ∙ held)
+        (over-put-in 0 (suc n) (s .waiting) (s .span) (suc i) f all ∙ ap (λ (v : ℕ). set (s .waiting) (suc i) v) (sym (add-one n)))
         )
 
     pub placed-past : (place : ℕ) → 0 < place → s .span ≤ place → place < length (s .waiting)
@@ -191,10 +191,10 @@ module _ (s : ReceiveBuffer) (n : ℕ) where
         let t = tableOf s in
         let held : length t ≡ s .span = length-take-le (s .span) (s .waiting) all in
         rw (run-put t i (suc n) first) (
-          same-state (s .initial) (s .length)
-          (omega arith)
-          (omega arith)
-          (sub-zero _ ∙ length-put-out 0 (suc n) t (suc i) (rw held f) ∙ sym (add-one (suc i)))
-          (over-put-past 0 (suc n) (s .waiting) (s .span) (suc i) f g
-            ∙ ap (λ (v : ℕ). set (paste (s .waiting) (s .span) (replicate (suc i - s .span) 0) (suc i - s .span)) (suc i) v) (sym (add-one n)))
+        same-state (s .initial) (s .length)
+        (omega arith)
+        (omega arith)
+        (sub-zero _ ∙ length-put-out 0 (suc n) t (suc i) (rw held f) ∙ sym (add-one (suc i)))
+        (over-put-past 0 (suc n) (s .waiting) (s .span) (suc i) f g
+        ∙ ap (λ (v : ℕ). set (paste (s .waiting) (s .span) (replicate (suc i - s .span) 0) (suc i - s .span)) (suc i) v) (sym (add-one n)))
         )

@@ -1,12 +1,12 @@
 -- Laws of the table of waiting lengths.
 use Prim.Native.Nat.{ℕ, zero, suc, _+_, _-_, _*_, _≤_, _<_, zero-le}
 use mathlib.Core.Path.{_≡_, refl, ap, sym, _∙_}
-use mathlib.Core.Bool.{Bool, true, false, cond, not, _&&_}
+use mathlib.Core.Bool.{Bool, true, false, cond, not, _&&_, _||_}
 use mathlib.Core.List.{List, [], _∷_, _++_}
 use native.Mathlib.Nat.{zero-add, add-zero, add-assoc, not-suc-le-zero, le-of-suc-le-suc}
 use native.Mathlib.Omega.{arith}
-use borrow.Author.Tests.{le-leb, lt-leb, lt-ltb, le-ltb, ne-eqb}
-use lib.Dec.{eqb}
+use borrow.Author.Tests.{le-leb, lt-leb, leb-false, lt-ltb, le-ltb, ne-eqb}
+use lib.Dec.{leb, eqb}
 use lib.ListN.{length, take, drop, getD, length-take, drop-of-length-le, List·getD-eq-default}
 use lib.Seq.{getD-take, drop-nil}
 use Rattle.recv.specs.Table.{waits, bytesIn, howMany, lastWaits, runOf, waitsAt, thereOf}
@@ -101,3 +101,15 @@ run-more (x ∷ l) (suc n) (suc i) h e = run-more l n i (le-of-suc-le-suc h) e
 
 pub run-past : (l : List ℕ) (n i : ℕ) → n ≤ i → runOf (drop i (take n l)) ≡ 0
 run-past l n i h = ap runOf (drop-of-length-le (take n l) {i = i} (simp length-take (omega arith)))
+
+neither : (a b : Bool) → a || b ≡ false → (a ≡ false) × (b ≡ false)
+neither true b h = (h, cc)
+neither false b h = (refl, h)
+
+-- what is not there lies past c, and does not wait
+pub not-there : (c o : ℕ) (t : List ℕ) → thereOf c t o ≡ false → (c < o) × (waits (getD t (o - (c + 1)) 0) ≡ false)
+unfolding thereOf
+not-there c o t h =
+    let parts = neither (leb o c) (waitsAt c t o) h in
+    let past : c < o = leb-false o c (parts .0) in
+    (past, rw (lt-ltb c o past) at (parts .1))

@@ -102,6 +102,7 @@ returns c =
   where
     shifted : ReceiveBuffer → ℕ → List ℕ
     shifted s r = paste (s .waiting) 0 (drop (1 + r) (s .waiting)) (s .span - (1 + r))
+
     mk : ReceiveBuffer → ℕ → ℕ → ℕ → List ℕ → ReceiveBuffer
     mk s n r b w = record { initial = s .initial; length = s .length; count = s .count + (1 + r); ready = s .ready + n + b; span = s .span - (1 + r); waiting = w }
 

@@ -1,3 +1,6 @@
+use Rattle.recv.specs.Laws.Steps.{placedOf, placed-alone}
+use Prim.Native.Nat.{ℕ}
+use mathlib.Core.Path.{_≡_, refl, sym, ap, _∙_}
 use borrow.Author.Needs.{needs}
 use Rattle.recv.proofs.ReceiveBuffer.placed.Statement.{statement}
 use Rattle.recv.proofs.ReceiveBuffer.placed.Tie as tie
@@ -24,7 +27,9 @@ add-state-2 c = search needs
 
 -- src/lib.rt:325:13
 returns-2 : tie.Need-returns-2
-returns-2 c = ?
+returns-2 c =
+    let a = c .before .before .before .before .before .args in
+    sym (ap (λ (place : ℕ). placedOf (a .self) place (a .n)) (c .before .before .before .before .if1 .left) ∙ placed-alone (a .self) (a .n) (c .before .before .if2 .taken))
 
 -- src/lib.rt:327:9
 moved-requires : tie.Need-moved-requires
@@ -32,7 +37,9 @@ moved-requires c κs = search needs
 
 -- src/lib.rt:314:5
 returns-3 : tie.Need-returns-3
-returns-3 c = ?
+returns-3 c =
+    let a = c .before .before .before .before .args in
+    c .moved .ensures ∙ ap (λ (place : ℕ). placedOf (a .self) place (a .n)) (sym (c .before .before .before .if1 .left))
 
 pub placed-spec : {M : Type 1} → statement M
 placed-spec =

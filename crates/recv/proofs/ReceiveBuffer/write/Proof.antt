@@ -1,90 +1,57 @@
+use Rattle.recv.specs.Laws.Answers.{written-is, written-room-is}
+use mathlib.Core.Path.{_≡_, refl, sym, ap, _∙_}
 use borrow.Author.Needs.{needs}
 use Rattle.recv.proofs.ReceiveBuffer.write.Statement.{statement}
 use Rattle.recv.proofs.ReceiveBuffer.write.Tie as tie
 use Rattle.recv.proofs.ReceiveBuffer.write.Reads as reads
 use Rattle.recv.proofs.ReceiveBuffer.write.Lts as lts
-use Rattle.packet.proofs.seq.SeqNum.offset_from.Reads as offset-from-reads
-use Rattle.recv.proofs.ReceiveBuffer.placed.Reads as placed-reads
+use Rattle.recv.proofs.ReceiveBuffer.store.Reads as store-reads
 use Rattle.recv.proofs.ReceiveBuffer.writing.Reads as writing-reads
-use Rattle.recv.proofs.bytes.insert.Reads as insert-reads
-use Rattle.recv.proofs.waiting.bytes_before.Reads as bytes-before-reads
-use Rattle.recv.proofs.waiting.bytes_in.Reads as bytes-in-reads
 
--- src/lib.rt:161:13
+-- src/lib.rt:162:13
 writing-requires : tie.Need-writing-requires
 writing-requires c κs = search needs
 
--- src/lib.rt:163:17
+-- src/lib.rt:165:40
 enum-told : tie.Need-enum-told
 enum-told c = search needs
 
--- src/lib.rt:164:17
-offset-from-requires : tie.Need-offset-from-requires
-offset-from-requires c κs = search needs
+-- src/lib.rt:165:21
+store-requires : tie.Need-store-requires
+store-requires c κs = sym (c .before .before .before .writing .ensures) ∙ c .before .enum-told .given .1
 
--- src/lib.rt:165:26
-cast-place : tie.Need-cast-place
-cast-place c = search needs
+-- src/lib.rt:172:25
+enum-told-2 : tie.Need-enum-told-2
+enum-told-2 c = search needs
 
--- src/lib.rt:165:26
-sub-place : tie.Need-sub-place
-sub-place c = ?
+-- src/lib.rt:175:30
+enum-known-answer : tie.Need-enum-known-answer
+enum-known-answer c = search needs
 
--- src/lib.rt:165:26
-sub-place-2 : tie.Need-sub-place-2
-sub-place-2 c = ?
-
--- src/lib.rt:165:25
-cast-place-2 : tie.Need-cast-place-2
-cast-place-2 c = search needs
-
--- src/lib.rt:166:24
-cast-span : tie.Need-cast-span
-cast-span c = search needs
-
--- src/lib.rt:167:24
-bytes-in-requires : tie.Need-bytes-in-requires
-bytes-in-requires c κs = ?
-
--- src/lib.rt:168:26
-bytes-before-requires : tie.Need-bytes-before-requires
-bytes-before-requires c κs = ?
-
--- src/lib.rt:169:32
-cast-insert : tie.Need-cast-insert
-cast-insert c = search needs
-
--- src/lib.rt:169:32
-add-insert : tie.Need-add-insert
-add-insert c = ?
-
--- src/lib.rt:169:62
-sub-insert : tie.Need-sub-insert
-sub-insert c = ?
-
--- src/lib.rt:169:13
-insert-requires : tie.Need-insert-requires
-insert-requires c κs = ?
-
--- src/lib.rt:170:44
-cast-placed : tie.Need-cast-placed
-cast-placed c = ?
-
--- src/lib.rt:170:17
-placed-requires : tie.Need-placed-requires
-placed-requires c κs = ?
-
--- src/lib.rt:171:13
+-- src/lib.rt:159:5
 same-length : tie.Need-same-length
 same-length c = search needs
 
--- src/lib.rt:171:13
+-- src/lib.rt:159:5
 returns : tie.Need-returns
-returns c = ?
+returns c =
+    let a = c .before .before .before .before .before .before .before .before .before .args in
+    let answer = sym (c .before .before .before .before .before .before .writing .ensures) ∙ c .before .before .before .before .enum-told .given .1 in
+    (written-is (a .self) (a .buf .now) (a .number) (a .payload .now) _ answer _ (c .before .before .store .ensures .0), written-room-is (a .self) (a .buf .now) (a .number) (a .payload .now) _ answer _ (c .before .before .store .ensures .1))
 
--- src/lib.rt:158:5
+-- src/lib.rt:159:5
 returns-2 : tie.Need-returns-2
-returns-2 c = ?
+returns-2 c =
+    let a = c .before .before .before .before .before .args in
+    let answer = sym (c .before .before .writing .ensures) ∙ c .enum-told2 .given .1 in
+    (written-is (a .self) (a .buf .now) (a .number) (a .payload .now) _ answer _ refl, written-room-is (a .self) (a .buf .now) (a .number) (a .payload .now) _ answer _ refl)
+
+-- src/lib.rt:159:5
+returns-3 : tie.Need-returns-3
+returns-3 c =
+    let a = c .before .before .before .before .before .before .args in
+    let answer = sym (c .before .before .before .writing .ensures) ∙ c .before .answer .given .1 in
+    (written-is (a .self) (a .buf .now) (a .number) (a .payload .now) _ answer _ refl, written-room-is (a .self) (a .buf .now) (a .number) (a .payload .now) _ answer _ refl)
 
 pub write-spec : {M : Type 1} → statement M
 write-spec =
@@ -92,20 +59,10 @@ write-spec =
     (tie.spec
     writing-requires
     enum-told
-    offset-from-requires
-    cast-place
-    sub-place
-    sub-place-2
-    cast-place-2
-    cast-span
-    bytes-in-requires
-    bytes-before-requires
-    cast-insert
-    add-insert
-    sub-insert
-    insert-requires
-    cast-placed
-    placed-requires
+    store-requires
+    enum-told-2
+    enum-known-answer
     same-length
     returns
-    returns-2)
+    returns-2
+    returns-3)
