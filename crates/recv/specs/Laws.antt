@@ -7,3 +7,4 @@ pub mod Steps
 pub mod Answers
 pub mod Payloads
 pub mod Stored
+pub mod Reading

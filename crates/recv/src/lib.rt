@@ -6,10 +6,12 @@ mod bytes;
 mod waiting;
 
 ghost use mathlib.Core.Path.{_≡_};
-ghost use Prim.Native.Nat.{_≤_, _<_};
-ghost use lib.ListN.{length};
-ghost use Rattle.recv.specs.Calls.{answerOf, afterWrite, stateOf, roomOf, writtenOf, writtenRoomOf};
+ghost use Prim.Native.Nat.{_≤_, _<_, min};
+ghost use lib.ListN.{length, take};
+ghost use Rattle.recv.specs.Calls.{receiverOf, over, stateOf, roomOf, answerOf, afterWrite, writtenOf, writtenRoomOf, takenOf, takenRoomOf, takenOutOf};
+ghost use Rattle.recv.specs.Receiver.{readOf};
 ghost use Rattle.recv.specs.Laws.Steps.{Placeable, placedOf};
+ghost use Rattle.recv.specs.Laws.Reading.{Takes};
 ghost use Rattle.recv.specs.State.{soundOf, createdOf, noReceiverOf, countedOf, toldOf, numberedOf, ackOf, writtenBefore, emptyOf, tableOf};
 ghost use Rattle.recv.specs.Table.{bytesIn, howMany, thereOf, freeOf};
 
@@ -179,6 +181,30 @@ impl ReceiveBuffer {
         }
     }
 
+    // Reads the oldest ready bytes into `out`, as many as there are and fit. Refusals: 19, 18.
+    pub fn read(self, buf: &mut [u8], out: &mut [u8]) -> Taken
+        ensures { λ r. ⌜ (r ≡ takenOf self (now (buf .entry)) (now (out .entry))) × (now (buf .exit) ≡ takenRoomOf self (now (buf .entry)) (now (out .entry))) × (now (out .exit) ≡ takenOutOf self (now (buf .entry)) (now (out .entry))) ⌝ }
+    {
+        if !self.is_sound() {
+            return Taken {
+                answer: Count::Refused(Refusal::NotSound),
+                state: self,
+            };
+        }
+        if buf.len() != self.length as usize {
+            return Taken {
+                answer: Count::Refused(Refusal::OtherLength),
+                state: self,
+            };
+        }
+        let n = smaller(out.len(), self.ready as usize);
+        let state = self.take(buf, out, n);
+        Taken {
+            answer: Count::Is(n),
+            state,
+        }
+    }
+
     // How many bytes more the buffer can hold. Refusals: 19.
     pub fn available(self) -> Count
         ensures { λ r. ⌜ r ≡ countedOf self (freeOf (self .length) (self .ready) (tableOf self)) ⌝ }
@@ -282,6 +308,23 @@ impl ReceiveBuffer {
         } else {
             Count::Refused(Refusal::NotSound)
         }
+    }
+
+    // Takes the oldest `n` ready bytes out, and moves what stays down. Nothing moves where n is 0.
+    fn take(self, buf: &mut [u8], out: &mut [u8], n: usize) -> ReceiveBuffer
+        requires { ⌜ Takes self (now buf) (now out) n ⌝ }
+        ensures { λ r. ⌜ (r ≡ stateOf (self .waiting) (readOf (receiverOf self (now (buf .entry))) n)) × (now (buf .exit) ≡ roomOf (now (buf .entry)) (readOf (receiverOf self (now (buf .entry))) n)) × (now (out .exit) ≡ over (take n (receiverOf self (now (buf .entry)) .ready)) (now (out .entry))) ⌝ }
+    {
+        if n == 0 {
+            return self;
+        }
+        let held = waiting::bytes_in(&self.waiting, self.span as usize) as usize;
+        let left = self.ready - n as u32;
+        bytes::copy(out, 0, buf, n);
+        bytes::move_down(buf, n, left as usize + held);
+        let mut state = self;
+        state.ready = left;
+        state
     }
 
     // What a write of `n` bytes under `number` answers, over a buffer of `size` bytes.
@@ -407,6 +450,16 @@ impl ReceiveBuffer {
         }
         waiting::waits_at(&self.waiting, self.span as usize, self.count, offset)
     }
+}
+
+// The smaller of two numbers.
+fn smaller(a: usize, b: usize) -> usize
+    ensures { λ r. ⌜ r ≡ min a b ⌝ }
+{
+    if a < b {
+        return a;
+    }
+    b
 }
 
 // The answer 10.
