@@ -8,3 +8,4 @@ pub mod Answers
 pub mod Payloads
 pub mod Stored
 pub mod Reading
+pub mod Sack

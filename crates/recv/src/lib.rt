@@ -3,12 +3,13 @@
 use packet::seq::SeqNum;
 
 mod bytes;
+mod sack;
 mod waiting;
 
 ghost use mathlib.Core.Path.{_≡_};
 ghost use Prim.Native.Nat.{_≤_, _<_, min};
 ghost use lib.ListN.{length, take};
-ghost use Rattle.recv.specs.Calls.{receiverOf, over, stateOf, roomOf, answerOf, afterWrite, writtenOf, writtenRoomOf, takenOf, takenRoomOf, takenOutOf};
+ghost use Rattle.recv.specs.Calls.{receiverOf, over, stateOf, roomOf, answerOf, afterWrite, writtenOf, writtenRoomOf, takenOf, takenRoomOf, takenOutOf, ackedOf, ackedRoomOf};
 ghost use Rattle.recv.specs.Receiver.{readOf};
 ghost use Rattle.recv.specs.Laws.Steps.{Placeable, placedOf};
 ghost use Rattle.recv.specs.Laws.Reading.{Takes};
@@ -264,6 +265,23 @@ impl ReceiveBuffer {
         } else {
             Number::Refused(Refusal::NotSound)
         }
+    }
+
+    // Writes the selective ACK into `room` and answers its length: 0, which means none, with nothing
+    // waiting. Refusals: 19, 9.
+    pub fn selective_ack(self, room: &mut [u8]) -> Count
+        ensures { λ r. ⌜ (r ≡ ackedOf self (length (now (room .entry)))) × (now (room .exit) ≡ ackedRoomOf self (now (room .entry))) ⌝ }
+    {
+        if !self.is_sound() {
+            return Count::Refused(Refusal::NotSound);
+        }
+        let span = self.span as usize;
+        let n = sack::length_for(span);
+        if n > room.len() {
+            return Count::Refused(Refusal::RoomTooSmall);
+        }
+        sack::fill(&self.waiting, span, room, n);
+        Count::Is(n)
     }
 
     // How many payloads are in order: document 01's c. Refusals: 19.

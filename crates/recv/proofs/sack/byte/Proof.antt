@@ -1,0 +1,103 @@
+use Rattle.recv.specs.Table.{sackBitOf}
+use mathlib.Core.Bool.{cond}
+use Rattle.recv.specs.Laws.Sack.{upperOf, upper-lt, upper-more, upper-all}
+use lib.Seq.{paste, paste-zero, paste-suc, getD-take}
+use lib.ListN.{length, take, drop, set, getD, length-set, length-take, List·getD-eq-default}
+use borrow.Author.Needs.{needs}
+use native.Mathlib.Omega.{arith}
+use native.Mathlib.Numerals.{add-one}
+use mathlib.Core.List.{List}
+use mathlib.Core.Path.{_≡_, refl, sym, ap, _∙_}
+use Prim.Native.Nat.{ℕ, _+_, _-_, _*_, _≤_, _<_}
+use Rattle.recv.proofs.sack.byte.Statement.{statement}
+use Rattle.recv.proofs.sack.byte.Tie as tie
+use Rattle.recv.proofs.sack.byte.Reads as reads
+use Rattle.recv.proofs.sack.byte.Lts as lts
+use Rattle.recv.proofs.sack.bit.Reads as bit-reads
+
+abbrev Inv-loop : tie.InvT-loop
+Inv-loop waiting span k value₀ left₀ value left = (left ≤ 8) × (value ≡ upperOf (take span waiting) k left)
+
+abbrev μ-loop : tie.MeasureT-loop
+μ-loop waiting span k value₀ left₀ value left = left
+
+-- src/sack.rt:38:5
+loop-holds : tie.Need-loop-holds Inv-loop μ-loop
+loop-holds c = search needs
+
+-- src/sack.rt:39:9
+sub-left : tie.Need-sub-left Inv-loop μ-loop
+sub-left c = search needs
+
+-- src/sack.rt:40:36
+mul-bit : tie.Need-mul-bit Inv-loop μ-loop
+mul-bit c = search needs
+
+-- src/sack.rt:40:36
+add-bit : tie.Need-add-bit Inv-loop μ-loop
+add-bit c = search needs
+
+-- src/sack.rt:40:36
+add-bit-2 : tie.Need-add-bit-2 Inv-loop μ-loop
+add-bit-2 c = search needs
+
+-- src/sack.rt:40:17
+bit-requires : tie.Need-bit-requires Inv-loop μ-loop
+bit-requires c κs = search needs
+
+-- src/sack.rt:40:56
+mul-value : tie.Need-mul-value Inv-loop μ-loop
+mul-value c = omega (arith, upper-lt (take (c .before .before .before .args .span) (c .before .before .before .args .waiting .now)) (c .before .before .before .args .k) (c .before .before .loop .left))
+
+-- src/sack.rt:40:17
+add-value : tie.Need-add-value Inv-loop μ-loop
+add-value c = omega (arith, upper-lt (take (c .before .before .before .args .span) (c .before .before .before .args .waiting .now)) (c .before .before .before .args .k) (c .before .before .loop .left))
+
+-- src/sack.rt:38:5
+loop-less : tie.Need-loop-less Inv-loop μ-loop
+loop-less c = search needs
+
+-- src/sack.rt:38:5
+loop-again : tie.Need-loop-again Inv-loop μ-loop
+loop-again c =
+    let a = c .before .before .before .args in
+    let t = take (a .span) (a .waiting .now) in
+    let turn = c .before .before .loop in
+    let left = turn .left - 1 in
+    let e : turn .left ≡ left + 1 = omega arith in (
+      omega arith,
+      ap (λ (v : ℕ). v + 2 * turn .value) (c .bit .ensures .0)
+          ∙ ap (λ (v : ℕ). cond (sackBitOf t (8 * a .k + left)) 1 0 + 2 * v) (turn .inv .1 ∙ ap (λ (n : ℕ). upperOf t (a .k) n) e)
+          ∙ sym (upper-more t (a .k) left (omega arith)),
+    )
+
+-- src/sack.rt:42:5
+cast-result : tie.Need-cast-result Inv-loop μ-loop
+cast-result c = omega (arith, upper-lt (take (c .before .before .args .span) (c .before .before .args .waiting .now)) (c .before .before .args .k) (c .before .loop .left))
+
+-- src/sack.rt:32:1
+returns : tie.Need-returns Inv-loop μ-loop
+returns c =
+    let a = c .before .before .args in
+    let t = take (a .span) (a .waiting .now) in
+    let none : c .before .loop .left ≡ 0 = omega arith in
+    c .before .loop .inv .1 ∙ ap (λ (n : ℕ). upperOf t (a .k) n) none ∙ upper-all t (a .k)
+
+pub byte-spec : {M : Type 1} → statement M
+byte-spec =
+    tie.close
+    (tie.spec
+    Inv-loop
+    μ-loop
+    loop-holds
+    sub-left
+    mul-bit
+    add-bit
+    add-bit-2
+    bit-requires
+    mul-value
+    add-value
+    loop-less
+    loop-again
+    cast-result
+    returns)
