@@ -9,3 +9,4 @@ pub mod Payloads
 pub mod Stored
 pub mod Reading
 pub mod Sack
+pub mod Numbers

@@ -3,5 +3,6 @@ pub mod Table
 pub mod State
 pub mod Receiver
 pub mod Calls
+pub mod Numbers
 pub mod Marked
 pub mod Laws

@@ -1,5 +1,8 @@
 -- Which case a test picks.
-use Prim.Native.Nat.{ℕ}
+use Prim.Native.Nat.{ℕ, _<_, _≤_}
+use mathlib.Core.Logic.{_⊎_, inl, inr}
+use borrow.Author.Tests.{ltb-true, ltb-false}
+use lib.Dec.{ltb}
 use mathlib.Core.Path.{_≡_, refl}
 use mathlib.Core.Bool.{Bool, true, false, cond, _&&_}
 use native.Mathlib.Omega.{arith}
@@ -24,3 +27,10 @@ and-true a b h = rw h
 
 pub and-false : (a b : Bool) → a ≡ false → a && b ≡ false
 and-false a b h = rw h
+
+pub lt-or-ge : (m n : ℕ) → (m < n) ⊎ (n ≤ m)
+lt-or-ge m n = by (ltb m n) refl
+  where
+    by : (b : Bool) → ltb m n ≡ b → (m < n) ⊎ (n ≤ m)
+    by true e = inl (ltb-true m n e)
+    by false e = inr (ltb-false m n e)

@@ -3,7 +3,8 @@ use Prim.Native.Nat.{ℕ, zero, suc, _+_, _-_, _*_, _/_, _%_, _^_, _≤_, _<_}
 use mathlib.Core.Path.{_≡_, refl, ap, sym, _∙_}
 use mathlib.Core.Bool.{Bool, true, false, cond, _&&_}
 use mathlib.Core.List.{List, [], _∷_, _++_}
-use native.Mathlib.Nat.{add-zero, add-suc, zero-add, suc-add, not-suc-le-zero, le-of-suc-le-suc}
+use mathlib.Core.Logic.{⊎-elim}
+use native.Mathlib.Nat.{add-zero, zero-add, not-suc-le-zero, le-of-suc-le-suc, zero-div, div-one, div-div-eq-div-mul}
 use native.Mathlib.Numerals.{add-one}
 use native.Mathlib.Omega.{arith}
 use borrow.Author.Tests.{lt-ltb, le-leb, lt-leb}
@@ -15,7 +16,7 @@ use Rattle.packet.specs.Sack.{bitOf, bitCountOf}
 use Rattle.recv.specs.Table.{waits, binaryOf, tabled, sackBitOf, sackByteOf, sackLengthOf, sackOf, waitsAt}
 use Rattle.recv.specs.State.{tableOf, soundOf}
 use Rattle.recv.specs.Calls.{over, ackedOf, ackedRoomOf}
-use Rattle.recv.specs.Laws.Cases.{cond-true, cond-false, and-true, and-false}
+use Rattle.recv.specs.Laws.Cases.{cond-true, cond-false, and-true, and-false, lt-or-ge}
 use Rattle.recv.specs.declared.ReceiveBuffer.{ReceiveBuffer}
 use Rattle.recv.specs.declared.Refusal.the-variants.{RoomTooSmall, NotSound}
 use Rattle.recv.specs.declared.Count.{Count}
@@ -127,3 +128,77 @@ module _ (s : ReceiveBuffer) (room : List ℕ) where
 -- the length from the count of places
 pub sack-length-is : (s : ReceiveBuffer) → s .span ≤ length (s .waiting) → (s .span - 1 + 31) / 32 * 4 ≡ sackLengthOf (tableOf s)
 sack-length-is s all = ap (λ (n : ℕ). (n - 1 + 31) / 32 * 4) (sym (length-take-le (s .span) (s .waiting) all))
+
+-- ---- what a bit means
+
+-- the lowest bit of a row, and the others one below
+lowest : (b : Bool) (v : ℕ) → (cond b 1 0 + 2 * v) % 2 ≡ cond b 1 0
+lowest true v = omega arith
+lowest false v = omega arith
+
+others : (b : Bool) (v : ℕ) → (cond b 1 0 + 2 * v) / 2 ≡ v
+others true v = omega arith
+others false v = omega arith
+
+binary-bit : (bs : List Bool) (j : ℕ) → binaryOf bs / 2 ^ j % 2 ≡ cond (getD bs j false) 1 0
+binary-bit [] j = ap (λ (n : ℕ). n % 2) (zero-div (2 ^ j))
+binary-bit (b ∷ bs) zero = ap (λ (n : ℕ). n % 2) (div-one (cond b 1 0 + 2 * binaryOf bs)) ∙ lowest b (binaryOf bs)
+binary-bit (b ∷ bs) (suc j) =
+    let v = cond b 1 0 + 2 * binaryOf bs in
+    ap (λ (n : ℕ). v / n % 2) (twice j)
+    ∙ ap (λ (n : ℕ). n % 2) (sym (div-div-eq-div-mul v 2 (2 ^ j)))
+    ∙ ap (λ (n : ℕ). n / 2 ^ j % 2) (others b (binaryOf bs))
+    ∙ binary-bit bs j
+
+test-bit : (b : Bool) → eqb (cond b 1 0) 1 ≡ b
+test-bit true = refl
+test-bit false = refl
+
+-- bit i is the table's entry i + 1, within the bytes and past them
+pub bit-is : (t : List ℕ) (i : ℕ) → bitOf (sackOf t) i ≡ sackBitOf t i
+bit-is t i = ⊎-elim within past (lt-or-ge (i / 8) (sackLengthOf t))
+  where
+    within : i / 8 < sackLengthOf t → bitOf (sackOf t) i ≡ sackBitOf t i
+    within h =
+        let f : ℕ → Bool = λ j. sackBitOf t (8 * (i / 8) + j) in
+        let whole : 8 * (i / 8) + i % 8 ≡ i = omega arith in
+        let low : i % 8 < 8 = omega arith in
+        ap (λ (n : ℕ). eqb (n / 2 ^ (i % 8) % 2) 1) (sack-at t (i / 8) h)
+        ∙ ap (λ (n : ℕ). eqb n 1) (binary-bit (tabled 8 f) (i % 8))
+        ∙ ap (λ (b : Bool). eqb (cond b 1 0) 1) (getD-tabled 8 f (i % 8) false low)
+        ∙ test-bit (f (i % 8))
+        ∙ ap (λ (n : ℕ). sackBitOf t n) whole
+
+    past : sackLengthOf t ≤ i / 8 → bitOf (sackOf t) i ≡ sackBitOf t i
+    past h =
+        let none : length (sackOf t) ≤ i / 8 = rw (length-sack t) h in
+        let end : length t ≤ i + 1 = omega arith in
+        ap (λ (n : ℕ). eqb (n / 2 ^ (i % 8) % 2) 1) (List·getD-eq-default (sackOf t) 0 none)
+        ∙ ap (λ (n : ℕ). eqb (n % 2) 1) (zero-div (2 ^ (i % 8)))
+        ∙ sym (ap waits (List·getD-eq-default t 0 end))
+
+-- bit i is set exactly when offset c + 2 + i waits
+pub bit-means : (c : ℕ) (t : List ℕ) (i : ℕ) → bitOf (sackOf t) i ≡ waitsAt c t (c + 2 + i)
+bit-means c t i =
+    let past : c < c + 2 + i = omega arith in
+    let place : i + 1 ≡ c + 2 + i - (c + 1) = omega arith in
+    bit-is t i ∙ ap (λ (n : ℕ). waits (getD t n 0)) place ∙ sym (and-true (ltb c (c + 2 + i)) _ (lt-ltb c (c + 2 + i) past))
+
+-- ---- how long it is: a multiple of 4, that reaches the furthest, and the least such
+
+pub sack-fours : (t : List ℕ) → length (sackOf t) % 4 ≡ 0
+sack-fours t = rw (length-sack t) (omega arith)
+
+pub sack-reaches : (t : List ℕ) → length t - 1 ≤ bitCountOf (sackOf t)
+sack-reaches t = rw (length-sack t) (omega arith)
+
+pub sack-least : (t : List ℕ) (n : ℕ) → n % 4 ≡ 0 → length t - 1 ≤ 8 * n → length (sackOf t) ≤ n
+sack-least t n four reach = rw (length-sack t) (omega arith)
+
+-- none with nothing waiting, and 32 bytes always suffice
+pub sack-none : sackOf [] ≡ []
+unfolding sackOf
+sack-none = refl
+
+pub sack-most : (t : List ℕ) → length t ≤ 256 → length (sackOf t) ≤ 32
+sack-most t h = rw (length-sack t) (omega arith)
