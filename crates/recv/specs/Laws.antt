@@ -10,3 +10,5 @@ pub mod Stored
 pub mod Reading
 pub mod Sack
 pub mod Numbers
+pub mod Shape
+pub mod Runs

@@ -1,8 +1,8 @@
 -- Which case a test picks.
 use Prim.Native.Nat.{ℕ, _<_, _≤_}
 use mathlib.Core.Logic.{_⊎_, inl, inr}
-use borrow.Author.Tests.{ltb-true, ltb-false}
-use lib.Dec.{ltb}
+use borrow.Author.Tests.{ltb-true, ltb-false, eqb-true, eqb-false}
+use lib.Dec.{ltb, eqb}
 use mathlib.Core.Path.{_≡_, refl}
 use mathlib.Core.Bool.{Bool, true, false, cond, _&&_}
 use native.Mathlib.Omega.{arith}
@@ -34,3 +34,10 @@ lt-or-ge m n = by (ltb m n) refl
     by : (b : Bool) → ltb m n ≡ b → (m < n) ⊎ (n ≤ m)
     by true e = inl (ltb-true m n e)
     by false e = inr (ltb-false m n e)
+
+pub eq-or-ne : (m n : ℕ) → (m ≡ n) ⊎ (m ≡ n → ⊥)
+eq-or-ne m n = by (eqb m n) refl
+  where
+    by : (b : Bool) → eqb m n ≡ b → (m ≡ n) ⊎ (m ≡ n → ⊥)
+    by true e = inl (eqb-true m n e)
+    by false e = inr (eqb-false m n e)

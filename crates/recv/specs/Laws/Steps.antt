@@ -92,7 +92,7 @@ run-put [] i v h = refl
 run-put (zero ∷ t) i v h = refl
 run-put (suc x ∷ t) i v h = cc
 
-run-le : (t : List ℕ) → runOf t ≤ length t
+pub run-le : (t : List ℕ) → runOf t ≤ length t
 run-le [] = zero-le
 run-le (zero ∷ t) = zero-le
 run-le (suc x ∷ t) = suc-le-suc (run-le t)
