@@ -1,23 +1,23 @@
 -- What each call that lends memory answers, and what stands in that memory on return, for any state and any memory. Definitions only.
-use Prim.Native.Nat.{ℕ, zero, suc, _+_, _-_, min}
-use mathlib.Core.Bool.{Bool, true, false, cond, _&&_}
+use Prim.Native.Nat.{ℕ, zero, suc, min}
+use mathlib.Core.Bool.{Bool, cond, _&&_}
 use mathlib.Core.List.{List, [], _∷_, _++_}
 use mathlib.Core.Option.{Option, none, some}
 use lib.Dec.{leb, eqb}
 use lib.ListN.{length, take, drop}
 use Rattle.packet.specs.Seq.{offsetOf}
 use Rattle.packet.specs.declared.seq.SeqNum.{SeqNum}
-use Rattle.recv.specs.Table.{bytesIn, sackOf}
+use Rattle.recv.specs.Table.{sackOf}
 use Rattle.recv.specs.State.{tableOf, soundOf}
 use Rattle.recv.specs.Receiver.{Receiver, joined, lengthsOf, ruleOf, storedOf, changed, readOf}
+use Rattle.recv.specs.declared.Count.{Count}
+use Rattle.recv.specs.declared.Count.the-variants.{Is, Refused}
 use Rattle.recv.specs.declared.ReceiveBuffer.{ReceiveBuffer}
 use Rattle.recv.specs.declared.Refusal.the-variants.{RoomTooSmall, OtherLength, NotSound}
+use Rattle.recv.specs.declared.Taken.{Taken}
 use Rattle.recv.specs.declared.Writing.{Writing}
 use Rattle.recv.specs.declared.Writing.the-variants.{Refused as write-refused}
 use Rattle.recv.specs.declared.Written.{Written}
-use Rattle.recv.specs.declared.Count.{Count}
-use Rattle.recv.specs.declared.Count.the-variants.{Is, Refused}
-use Rattle.recv.specs.declared.Taken.{Taken}
 
 -- ---- what a state and the bytes of its buffer stand for: the ready bytes, then the waiting payloads by offset, end to end, then spare bytes
 

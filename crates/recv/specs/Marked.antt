@@ -1,9 +1,8 @@
 -- The marked cases R1 and R2 of document 01, "Receiving": what the definitions give beside what the document says. A row is a list of numbers.
 use Prim.Native.Nat.{ℕ}
+use mathlib.Core.List.{List, [], _∷_}
 use mathlib.Core.Path.{_≡_, refl}
-use mathlib.Core.List.{List, [], _∷_, _++_}
 use lib.ListN.{replicate}
-use Rattle.packet.specs.declared.seq.SeqNum.{SeqNum}
 use Rattle.recv.specs.Table.{thereOf, sackOf}
 use Rattle.recv.specs.State.{soundOf, tableOf, ackOf, freshOf}
 use Rattle.recv.specs.Receiver.{ruleOf, storedOf}

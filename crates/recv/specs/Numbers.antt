@@ -1,19 +1,19 @@
 -- Document 01's number and values for each answer of the receiver: the answer number, then the values that come with it ("Answer numbers"). Definitions only.
 use Prim.Native.Nat.{ℕ}
-use mathlib.Core.Bool.{Bool, cond}
+use mathlib.Core.Bool.{cond}
 use mathlib.Core.List.{List, [], _∷_}
-use Rattle.recv.specs.declared.Refusal.{Refusal}
-use Rattle.recv.specs.declared.Refusal.the-variants.{RoomTooSmall, LengthOutOfRange, PastLimit, TooFarAhead, PayloadTooLong, OtherLength, NotSound}
-use Rattle.recv.specs.declared.Creation.{Creation}
-use Rattle.recv.specs.declared.Creation.the-variants.{Made, Refused as creation-refused}
-use Rattle.recv.specs.declared.Writing.{Writing}
-use Rattle.recv.specs.declared.Writing.the-variants.{Stored, AlreadyThere, Refused as writing-refused}
 use Rattle.recv.specs.declared.Count.{Count}
 use Rattle.recv.specs.declared.Count.the-variants.{Is as count-is, Refused as count-refused}
-use Rattle.recv.specs.declared.Truth.{Truth}
-use Rattle.recv.specs.declared.Truth.the-variants.{Is as truth-is, Refused as truth-refused}
+use Rattle.recv.specs.declared.Creation.{Creation}
+use Rattle.recv.specs.declared.Creation.the-variants.{Made, Refused as creation-refused}
 use Rattle.recv.specs.declared.Number.{Number}
 use Rattle.recv.specs.declared.Number.the-variants.{Is as number-is, Refused as number-refused}
+use Rattle.recv.specs.declared.Refusal.{Refusal}
+use Rattle.recv.specs.declared.Refusal.the-variants.{RoomTooSmall, LengthOutOfRange, PastLimit, TooFarAhead, PayloadTooLong, OtherLength, NotSound}
+use Rattle.recv.specs.declared.Truth.{Truth}
+use Rattle.recv.specs.declared.Truth.the-variants.{Is as truth-is, Refused as truth-refused}
+use Rattle.recv.specs.declared.Writing.{Writing}
+use Rattle.recv.specs.declared.Writing.the-variants.{Stored, AlreadyThere, Refused as writing-refused}
 
 -- why a call is refused
 abbrev pub numberOf : Refusal → ℕ

@@ -1,9 +1,9 @@
 -- What a receiver is, and what document 01, "Receiving", says a write and a read do to it. Definitions only.
 use Prim.Native.Nat.{ℕ, zero, suc, _+_, _-_}
-use mathlib.Core.Bool.{Bool, true, false, cond}
+use mathlib.Core.Bool.{cond}
 use mathlib.Core.List.{List, [], _∷_, _++_, map}
 use mathlib.Core.Option.{Option, none, some}
-use lib.Dec.{leb, ltb}
+use lib.Dec.{ltb}
 use lib.ListN.{length, take, drop}
 use Rattle.packet.specs.declared.seq.SeqNum.{SeqNum}
 use Rattle.recv.specs.Table.{runOf, limit, ahead, thereOf, freeOf}

@@ -1,6 +1,6 @@
 -- What any calls from a fresh receiver come to: what each stores, and what each reads. Definitions only.
 use Prim.Native.Nat.{ℕ, _+_, _-_}
-use mathlib.Core.Bool.{Bool, cond}
+use mathlib.Core.Bool.{cond}
 use mathlib.Core.List.{List, [], _∷_, _++_}
 use mathlib.Core.Option.{Option, none, some}
 use lib.Dec.{eqb}
@@ -10,11 +10,9 @@ use Rattle.packet.specs.declared.seq.SeqNum.{SeqNum}
 use Rattle.recv.specs.State.{freshOf}
 use Rattle.recv.specs.Receiver.{Receiver, changed}
 use Rattle.recv.specs.Calls.{answerOf, writtenOf, writtenRoomOf, takenOf, takenRoomOf, takenOutOf}
-use Rattle.recv.specs.declared.ReceiveBuffer.{ReceiveBuffer}
 use Rattle.recv.specs.declared.Count.{Count}
 use Rattle.recv.specs.declared.Count.the-variants.{Is, Refused}
-use Rattle.recv.specs.declared.Taken.{Taken}
-use Rattle.recv.specs.declared.Written.{Written}
+use Rattle.recv.specs.declared.ReceiveBuffer.{ReceiveBuffer}
 
 -- a call that can change something: a payload under its number, or output to read into
 pub data Call : Type 0 where

@@ -1,24 +1,22 @@
 -- The receiver's state, its soundness test (docs/STATE.md), and what is answered of it. Definitions only.
-use Prim.Native.Nat.{ℕ, _+_, _-_, _<_}
-use mathlib.Core.Bool.{Bool, true, false, cond, not, _&&_}
-use mathlib.Core.List.{List, [], _∷_}
-use lib.Dec.{leb, ltb, eqb}
+use Prim.Native.Nat.{ℕ, _+_}
+use mathlib.Core.Bool.{Bool, true, cond, not, _&&_}
+use mathlib.Core.List.{List}
+use lib.Dec.{leb, eqb}
 use lib.ListN.{take, getD, replicate}
 use Rattle.packet.specs.Seq.{plusOf, offsetOf}
 use Rattle.packet.specs.declared.seq.SeqNum.{SeqNum}
-use Rattle.recv.specs.Table.{waits, bytesIn, howMany, lastWaits, largestLength, limit, ahead, thereOf, freeOf}
-use Rattle.recv.specs.declared.ReceiveBuffer.{ReceiveBuffer}
-use Rattle.recv.specs.declared.Refusal.{Refusal}
-use Rattle.recv.specs.declared.Refusal.the-variants.{RoomTooSmall, LengthOutOfRange, PastLimit, TooFarAhead, PayloadTooLong, OtherLength, NotSound}
+use Rattle.recv.specs.Table.{waits, bytesIn, howMany, lastWaits, largestLength, limit, ahead, thereOf}
 use Rattle.recv.specs.declared.Count.{Count}
 use Rattle.recv.specs.declared.Count.the-variants.{Is as count-is, Refused as count-refused}
-use Rattle.recv.specs.declared.Truth.{Truth}
-use Rattle.recv.specs.declared.Truth.the-variants.{Is as truth-is, Refused as truth-refused}
+use Rattle.recv.specs.declared.Created.{Created}
+use Rattle.recv.specs.declared.Creation.the-variants.{Made, Refused as creation-refused}
 use Rattle.recv.specs.declared.Number.{Number}
 use Rattle.recv.specs.declared.Number.the-variants.{Is as number-is, Refused as number-refused}
-use Rattle.recv.specs.declared.Creation.{Creation}
-use Rattle.recv.specs.declared.Creation.the-variants.{Made, Refused as creation-refused}
-use Rattle.recv.specs.declared.Created.{Created}
+use Rattle.recv.specs.declared.ReceiveBuffer.{ReceiveBuffer}
+use Rattle.recv.specs.declared.Refusal.the-variants.{LengthOutOfRange, NotSound}
+use Rattle.recv.specs.declared.Truth.{Truth}
+use Rattle.recv.specs.declared.Truth.the-variants.{Is as truth-is, Refused as truth-refused}
 
 -- what stands in the table for the offsets past those in order, up to the furthest that waits
 abbrev pub tableOf : ReceiveBuffer → List ℕ

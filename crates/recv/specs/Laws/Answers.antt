@@ -1,25 +1,24 @@
 -- What a write answers, case by case, and what is known where it stores.
 use Prim.Native.Nat.{ℕ, _+_, _-_, _≤_, _<_}
-use mathlib.Core.Path.{_≡_, refl, ap, sym, _∙_}
 use mathlib.Core.Bool.{Bool, true, false, cond}
 use mathlib.Core.List.{List}
+use mathlib.Core.Path.{_≡_, refl, _∙_}
 use native.Mathlib.Omega.{arith}
 use borrow.Author.Tests.{lt-ltb, le-ltb, ltb-false, eq-eqb, ne-eqb, eqb-true}
 use lib.Dec.{ltb, eqb}
+use lib.ListN.{length, getD}
 use Rattle.packet.specs.Seq.{offsetOf}
 use Rattle.packet.specs.declared.seq.SeqNum.{SeqNum}
-use lib.ListN.{length, getD}
-use Rattle.recv.specs.Laws.Table.{not-there}
-use Rattle.recv.specs.Laws.State.{Sound, sound-facts}
 use Rattle.recv.specs.Table.{waits, bytesIn, limit, ahead, thereOf, freeOf}
 use Rattle.recv.specs.State.{tableOf, soundOf}
 use Rattle.recv.specs.Receiver.{ruleOf, changed}
 use Rattle.recv.specs.Calls.{answerOf, stateOf, roomOf, afterWrite, writtenOf, writtenRoomOf}
 use Rattle.recv.specs.Laws.Cases.{cond-true, cond-false}
+use Rattle.recv.specs.Laws.State.{Sound, sound-facts}
+use Rattle.recv.specs.Laws.Table.{not-there}
 use Rattle.recv.specs.declared.ReceiveBuffer.{ReceiveBuffer}
 use Rattle.recv.specs.declared.Refusal.the-variants.{PastLimit, TooFarAhead, PayloadTooLong, OtherLength, NotSound}
 use Rattle.recv.specs.declared.Writing.{Writing}
-use Rattle.recv.specs.declared.Written.{Written}
 use Rattle.recv.specs.declared.Writing.the-variants.{Stored, AlreadyThere, Refused}
 
 -- ---- the rule, by its tests in their order

@@ -1,12 +1,12 @@
 -- Laws of `paste`, a run of elements put over another: what a loop that moves elements one by one adds in a turn. They hold of any list.
 use Prim.Native.Nat.{ℕ, zero, suc, _+_, _-_, _≤_, _<_}
-use mathlib.Core.Path.{_≡_, refl, ap, sym, _∙_, subst}
 use mathlib.Core.List.{List, [], _∷_, _++_, append-assoc}
-use native.Mathlib.Nat.{zero-add, suc-add, add-suc, sub-zero, zero-sub, suc-sub-suc}
+use mathlib.Core.Path.{_≡_, refl, ap, sym, _∙_}
+use native.Mathlib.Nat.{zero-add, sub-zero, zero-sub, suc-sub-suc}
 use native.Mathlib.Numerals.{add-one}
 use native.Mathlib.Omega.{arith}
-use lib.ListN.{length, take, drop, set, getD, length-append, length-take, length-drop, length-set, List·getD-append}
-use lib.Seq.{paste, paste-suc, paste-zero, length-paste-head, length-take-le, getD-append-add, getD-take, getD-drop, set-append-left, take-set-lt, take-suc-set, append-snoc, drop-cons, take-append-le, take-take, drop-at, take-length, take-nil}
+use lib.ListN.{length, take, drop, set, getD, length-append, length-drop, List·getD-append}
+use lib.Seq.{paste, paste-suc, length-paste-head, length-take-le, getD-append-add, getD-take, getD-drop, set-append-left, take-set-lt, take-suc-set, append-snoc, drop-cons, take-append-le, take-take, drop-at, take-length, take-nil}
 
 -- the same run at equal places
 pub paste-at : (d : List ℕ) (at at′ from from′ n n′ : ℕ) → at ≡ at′ → from ≡ from′ → n ≡ n′ → paste d at (drop from d) n ≡ paste d at′ (drop from′ d) n′

@@ -1,22 +1,22 @@
 -- Equal numbers and values mean equal answers: each answer is read back from them.
 use Prim.Native.Nat.{ℕ}
-use mathlib.Core.Path.{_≡_, refl, ap, sym, _∙_}
-use mathlib.Core.Bool.{Bool, true, false, cond}
+use mathlib.Core.Bool.{true, false, cond}
 use mathlib.Core.List.{List, [], _∷_}
+use mathlib.Core.Path.{_≡_, refl, ap, sym, _∙_}
 use lib.Dec.{eqb}
 use Rattle.recv.specs.Numbers.{numberOf, ofCreation, ofWriting, ofCount, ofTruth, ofNumber}
-use Rattle.recv.specs.declared.Refusal.{Refusal}
-use Rattle.recv.specs.declared.Refusal.the-variants.{RoomTooSmall, LengthOutOfRange, PastLimit, TooFarAhead, PayloadTooLong, OtherLength, NotSound}
-use Rattle.recv.specs.declared.Creation.{Creation}
-use Rattle.recv.specs.declared.Creation.the-variants.{Made, Refused as creation-refused}
-use Rattle.recv.specs.declared.Writing.{Writing}
-use Rattle.recv.specs.declared.Writing.the-variants.{Stored, AlreadyThere, Refused as writing-refused}
 use Rattle.recv.specs.declared.Count.{Count}
 use Rattle.recv.specs.declared.Count.the-variants.{Is as count-is, Refused as count-refused}
-use Rattle.recv.specs.declared.Truth.{Truth}
-use Rattle.recv.specs.declared.Truth.the-variants.{Is as truth-is, Refused as truth-refused}
+use Rattle.recv.specs.declared.Creation.{Creation}
+use Rattle.recv.specs.declared.Creation.the-variants.{Made, Refused as creation-refused}
 use Rattle.recv.specs.declared.Number.{Number}
 use Rattle.recv.specs.declared.Number.the-variants.{Is as number-is, Refused as number-refused}
+use Rattle.recv.specs.declared.Refusal.{Refusal}
+use Rattle.recv.specs.declared.Refusal.the-variants.{RoomTooSmall, LengthOutOfRange, PastLimit, TooFarAhead, PayloadTooLong, OtherLength, NotSound}
+use Rattle.recv.specs.declared.Truth.{Truth}
+use Rattle.recv.specs.declared.Truth.the-variants.{Is as truth-is, Refused as truth-refused}
+use Rattle.recv.specs.declared.Writing.{Writing}
+use Rattle.recv.specs.declared.Writing.the-variants.{Stored, AlreadyThere, Refused as writing-refused}
 
 -- what can be read back is one-to-one
 module _ {A B : Type 0} (f : A → B) (back : B → A) (reads : (a : A) → back (f a) ≡ a) where

@@ -1,13 +1,13 @@
 -- Payloads by offset beside their table of lengths and beside their bytes, end to end.
-use Prim.Native.Nat.{ℕ, zero, suc, _+_, _-_, _≤_, _<_}
-use mathlib.Core.Path.{_≡_, refl, ap, sym, _∙_}
-use mathlib.Core.Bool.{Bool, true, false}
-use mathlib.Core.List.{List, [], _∷_, _++_, map, append-assoc, append-nil}
+use Prim.Native.Nat.{ℕ, zero, suc, _+_, _-_, _≤_}
+use mathlib.Core.Bool.{false}
+use mathlib.Core.List.{List, [], _∷_, _++_, append-assoc}
 use mathlib.Core.Option.{Option, none, some}
+use mathlib.Core.Path.{_≡_, refl, ap, sym, _∙_}
 use native.Mathlib.Omega.{arith}
-use lib.ListN.{length, take, drop, getD, length-append, length-drop, List·getD-map}
+use lib.ListN.{length, take, drop, getD, length-append, length-drop}
 use lib.Seq.{take-nil, drop-nil, take-add, length-take-le}
-use Rattle.recv.specs.Table.{waits, bytesIn, runOf}
+use Rattle.recv.specs.Table.{waits, bytesIn}
 use Rattle.recv.specs.Receiver.{joined, entryOf, lengthsOf, putAt}
 use Rattle.recv.specs.Calls.{payloadsOf}
 

@@ -1,12 +1,11 @@
 -- What a read answers, case by case, and what is known where bytes are taken.
-use Prim.Native.Nat.{ℕ, zero, suc, _+_, _-_, _≤_, _<_, min}
-use mathlib.Core.Path.{_≡_, refl, ap, sym, _∙_}
-use mathlib.Core.Bool.{Bool, true, false, cond, _&&_}
-use mathlib.Core.List.{List, [], _∷_, _++_}
-use native.Mathlib.Nat.{zero-add, sub-zero}
+use Prim.Native.Nat.{ℕ, _+_, _-_, _≤_, min}
+use mathlib.Core.Bool.{true, false}
+use mathlib.Core.List.{List, _++_}
+use mathlib.Core.Path.{_≡_, ap, sym, _∙_}
+use native.Mathlib.Nat.{zero-add}
 use native.Mathlib.Omega.{arith}
 use borrow.Author.Tests.{eq-eqb, ne-eqb}
-use lib.Dec.{eqb}
 use lib.ListN.{length, take, drop, take-append-drop, length-drop}
 use lib.Seq.{paste, length-take-le}
 use Rattle.recv.specs.Table.{bytesIn}
@@ -16,10 +15,10 @@ use Rattle.recv.specs.Calls.{receiverOf, over, stateOf, roomOf, readyFor
 use Rattle.recv.specs.Laws.Cases.{cond-true, cond-false, and-true, and-false}
 use Rattle.recv.specs.Laws.State.{Sound}
 use Rattle.recv.specs.Laws.Stored.{state-read, room-read, out-read}
-use Rattle.recv.specs.declared.ReceiveBuffer.{ReceiveBuffer}
-use Rattle.recv.specs.declared.Refusal.the-variants.{OtherLength, NotSound}
 use Rattle.recv.specs.declared.Count.{Count}
 use Rattle.recv.specs.declared.Count.the-variants.{Is, Refused}
+use Rattle.recv.specs.declared.ReceiveBuffer.{ReceiveBuffer}
+use Rattle.recv.specs.declared.Refusal.the-variants.{OtherLength, NotSound}
 use Rattle.recv.specs.declared.Taken.{Taken}
 
 -- what is known where bytes are taken

@@ -1,36 +1,33 @@
 -- Over any calls from a fresh receiver: the state is sound; bytes read and bytes ready are exactly the payloads 1 to c in order, each the one first stored
 -- under its offset; what waits is the payload first stored under its offset; ready and waiting bytes never exceed the length. One invariant, a lemma for each kind of call.
 use Prim.Native.Nat.{ℕ, zero, suc, _+_, _-_, _≤_, _<_, min}
-use mathlib.Core.Path.{_≡_, refl, ap, sym, _∙_, subst}
-use mathlib.Core.Bool.{Bool, true, false, cond}
+use mathlib.Core.Bool.{Bool, true, cond}
 use mathlib.Core.List.{List, [], _∷_, _++_, append-assoc, append-nil}
-use mathlib.Core.Option.{Option, none, some}
 use mathlib.Core.Logic.{⊎-elim}
+use mathlib.Core.Option.{Option, none, some}
+use mathlib.Core.Path.{_≡_, refl, ap, sym, _∙_, subst}
 use native.Mathlib.Nat.{add-zero, not-suc-le-zero, le-of-suc-le-suc}
 use native.Mathlib.Numerals.{add-one}
 use native.Mathlib.Omega.{arith}
 use borrow.Author.Tests.{eq-eqb, ne-eqb}
 use lib.Dec.{eqb}
-use lib.ListN.{length, take, drop, getD, take-append-drop, length-replicate, List·getD-map}
-use lib.Seq.{getD-drop, take-take, length-take-le, take-append-le}
+use lib.ListN.{length, take, drop, getD, take-append-drop}
+use lib.Seq.{getD-drop, length-take-le}
 use Rattle.packet.specs.Seq.{offsetOf}
 use Rattle.packet.specs.declared.seq.SeqNum.{SeqNum}
-use Rattle.recv.specs.Table.{waits, bytesIn, tabled, thereOf}
-use Rattle.recv.specs.Table.{runOf as readyRun}
+use Rattle.recv.specs.Table.{waits, tabled, runOf as readyRun}
 use Rattle.recv.specs.State.{tableOf, soundOf, freshOf}
-use Rattle.recv.specs.Receiver.{Receiver, joined, entryOf, lengthsOf, putAt, storedOf, readOf, changed}
-use Rattle.recv.specs.Calls.{receiverOf, over, stateOf, roomOf, readyFor, answerOf, afterWrite, writtenOf, writtenRoomOf, takenOf, takenRoomOf, takenOutOf}
-use Rattle.recv.specs.Runs.{Call, write, read, Entry, Run, orElse, firstStored, waitingUnder, outputOf, stepOf, runOf, freshRun}
+use Rattle.recv.specs.Receiver.{Receiver, joined, lengthsOf, putAt, storedOf, readOf, changed}
+use Rattle.recv.specs.Calls.{receiverOf, over, stateOf, roomOf, readyFor, answerOf, afterWrite, takenRoomOf, takenOutOf}
+use Rattle.recv.specs.Runs.{Call, write, read, Entry, Run, orElse, firstStored, outputOf, stepOf, runOf, freshRun}
+use Rattle.recv.specs.Laws.Answers.{stores}
 use Rattle.recv.specs.Laws.Cases.{cond-true, and-true, eq-or-ne, lt-or-ge}
-use Rattle.recv.specs.Laws.State.{Sound, sound-facts, sound-test}
-use Rattle.recv.specs.Laws.Answers.{Stores, stores}
 use Rattle.recv.specs.Laws.Payloads.{joined-append, none-payloads}
 use Rattle.recv.specs.Laws.Shape.{Shape, over-back, shape-of, ready-length, lengths-table, stands-for, shape-sound, room-length, table-length, shape-stored, shape-read}
-use Rattle.recv.specs.declared.ReceiveBuffer.{ReceiveBuffer}
-use Rattle.recv.specs.declared.Refusal.{Refusal}
-use Rattle.recv.specs.declared.Writing.{Writing}
+use Rattle.recv.specs.Laws.State.{Sound, sound-facts, sound-test}
 use Rattle.recv.specs.declared.Count.the-variants.{Is}
 use Rattle.recv.specs.declared.Taken.{Taken}
+use Rattle.recv.specs.declared.Writing.{Writing}
 use Rattle.recv.specs.declared.Writing.the-variants.{Stored, AlreadyThere, Refused}
 
 -- ---- lists by their places
@@ -95,13 +92,13 @@ module _ (f : ℕ → Option (List ℕ)) (sofar : List ℕ) where
       let k = readyRun (lengthsOf w) in
       let here : f c ≡ some p = ap f (sym (add-zero c)) ∙ sym (h 0) in
       let next : sofar ++ (ready ++ p) ≡ joined (tabled (c + 1) f) =
-          sym (append-assoc sofar ready p)
-          ∙ ap (λ (l : List ℕ). l ++ p) e
-          ∙ ap (λ (l : List ℕ). joined (tabled c f) ++ l) (sym (append-nil p))
-          ∙ ap (λ (x : Option (List ℕ)). joined (tabled c f) ++ joined (x ∷ [])) (sym here)
-          ∙ sym (joined-append (tabled c f) (f c ∷ []))
-          ∙ ap joined (sym (tabled-end c f))
-          ∙ ap (λ (n : ℕ). joined (tabled n f)) (sym (add-one c)) in
+      sym (append-assoc sofar ready p)
+      ∙ ap (λ (l : List ℕ). l ++ p) e
+      ∙ ap (λ (l : List ℕ). joined (tabled c f) ++ l) (sym (append-nil p))
+      ∙ ap (λ (x : Option (List ℕ)). joined (tabled c f) ++ joined (x ∷ [])) (sym here)
+      ∙ sym (joined-append (tabled c f) (f c ∷ []))
+      ∙ ap joined (sym (tabled-end c f))
+      ∙ ap (λ (n : ℕ). joined (tabled n f)) (sym (add-one c)) in
       ap (λ (l : List ℕ). sofar ++ l) (sym (append-assoc ready p (joined (take k w))))
       ∙ moved-in-order w (c + 1) (ready ++ p) next (λ i. h (suc i) ∙ ap f (shift i))
       ∙ ap (λ (n : ℕ). joined (tabled n f)) (sym (shift k))
@@ -166,6 +163,7 @@ module _ (r : Receiver) (log : List Entry) (sofar : List ℕ) (kept : Kept r log
     where
       back : (j : ℕ) → r .count ≤ j → r .count + (j - r .count) ≡ j
       back j b = omega arith
+
       further : (m i : ℕ) → r .count + (m + i) ≡ r .count + m + i
       further m i = omega arith
 
@@ -233,8 +231,8 @@ module _ (r : Run) (good : Delivered r) where
         let new = none-payloads (tableOf (r .state)) (drop (r .state .ready) (r .bytes)) (offset - (r .state .count + 1)) (known .new) in
         rewritten (r .state .waiting) (r .bytes) after (record { offset = offset; payload = payload } ∷ r .stored) (r .read)
         (shape-stored rec shape offset payload (known .past) (known .low) (known .near)
-          (ap (λ (t : List ℕ). waits (getD t (offset - (r .state .count + 1)) 0)) lengths ∙ known .new)
-          (rw (lengths, ready) (known .room)))
+        (ap (λ (t : List ℕ). waits (getD t (offset - (r .state .count + 1)) 0)) lengths ∙ known .new)
+        (rw (lengths, ready) (known .room)))
         (good .table)
         (good .same ∙ sym (stored-size rec offset payload))
         (kept-stored rec (r .stored) (r .read) (good .kept) offset payload (known .past) new)

@@ -1,26 +1,25 @@
 -- The selective ACK: what each of its bits means and how long it is, once for every length.
 use Prim.Native.Nat.{ℕ, zero, suc, _+_, _-_, _*_, _/_, _%_, _^_, _≤_, _<_}
-use mathlib.Core.Path.{_≡_, refl, ap, sym, _∙_}
-use mathlib.Core.Bool.{Bool, true, false, cond, _&&_}
+use mathlib.Core.Bool.{Bool, true, false, cond}
 use mathlib.Core.List.{List, [], _∷_, _++_}
 use mathlib.Core.Logic.{⊎-elim}
+use mathlib.Core.Path.{_≡_, refl, ap, sym, _∙_}
 use native.Mathlib.Nat.{add-zero, zero-add, not-suc-le-zero, le-of-suc-le-suc, zero-div, div-one, div-div-eq-div-mul}
 use native.Mathlib.Numerals.{add-one}
 use native.Mathlib.Omega.{arith}
 use borrow.Author.Tests.{lt-ltb, le-leb, lt-leb}
 use lib.Dec.{leb, ltb, eqb}
-use lib.Pow.{pow-mono}
 use lib.ListN.{length, take, drop, getD, List·getD-eq-default}
+use lib.Pow.{pow-mono}
 use lib.Seq.{paste, take-all, length-take-le}
 use Rattle.packet.specs.Sack.{bitOf, bitCountOf}
 use Rattle.recv.specs.Table.{waits, binaryOf, tabled, sackBitOf, sackByteOf, sackLengthOf, sackOf, waitsAt}
 use Rattle.recv.specs.State.{tableOf, soundOf}
-use Rattle.recv.specs.Calls.{over, ackedOf, ackedRoomOf}
+use Rattle.recv.specs.Calls.{ackedOf, ackedRoomOf}
 use Rattle.recv.specs.Laws.Cases.{cond-true, cond-false, and-true, and-false, lt-or-ge}
+use Rattle.recv.specs.declared.Count.the-variants.{Is, Refused}
 use Rattle.recv.specs.declared.ReceiveBuffer.{ReceiveBuffer}
 use Rattle.recv.specs.declared.Refusal.the-variants.{RoomTooSmall, NotSound}
-use Rattle.recv.specs.declared.Count.{Count}
-use Rattle.recv.specs.declared.Count.the-variants.{Is, Refused}
 
 -- ---- a list by its places
 

@@ -1,24 +1,23 @@
 -- What is true of every receiver, said of the receiver itself: what a sound state stands for has it, writes and reads keep it, and a state of a receiver
 -- that has it is sound and stands for that very receiver.
-use Prim.Native.Nat.{ℕ, zero, suc, _+_, _-_, _≤_, _<_, zero-le}
-use mathlib.Core.Path.{_≡_, refl, ap, sym, _∙_}
+use Prim.Native.Nat.{ℕ, zero, suc, _+_, _-_, _≤_, _<_}
 use mathlib.Core.Bool.{Bool, true, false}
 use mathlib.Core.List.{List, [], _∷_, _++_, append-assoc}
-use mathlib.Core.Option.{Option, none, some}
 use mathlib.Core.Logic.{⊎-elim}
-use native.Mathlib.Nat.{not-suc-le-zero, le-of-suc-le-suc}
+use mathlib.Core.Option.{Option, none, some}
+use mathlib.Core.Path.{_≡_, refl, ap, sym, _∙_}
 use native.Mathlib.Omega.{arith}
-use lib.ListN.{length, take, drop, getD, length-append, length-drop, length-map, take-append-drop, List·getD-map}
-use lib.Seq.{take-at, drop-at, length-take-le, take-append-seam, drop-append-seam, take-append-add, length-front}
+use lib.ListN.{length, take, drop, getD, length-append, length-drop, length-map, List·getD-map}
+use lib.Seq.{length-take-le, take-append-seam, drop-append-seam}
 use Rattle.recv.specs.Table.{waits, bytesIn, lastWaits, runOf}
 use Rattle.recv.specs.State.{tableOf, soundOf}
 use Rattle.recv.specs.Receiver.{Receiver, joined, entryOf, lengthsOf, putAt, storedOf, readOf}
 use Rattle.recv.specs.Calls.{payloadsOf, receiverOf, over, stateOf, roomOf}
 use Rattle.recv.specs.Laws.Cases.{lt-or-ge}
-use Rattle.recv.specs.Laws.Table.{waits-zero, no-wait}
-use Rattle.recv.specs.Laws.State.{Sound, sound-facts, sound-test}
-use Rattle.recv.specs.Laws.Payloads.{lengths-take, lengths-drop, lengths-put, entry-none, joined-append, length-joined, lengths-payloads, joined-payloads, length-payloads, none-payloads}
+use Rattle.recv.specs.Laws.Payloads.{lengths-take, lengths-drop, lengths-put, length-joined, lengths-payloads, length-payloads, none-payloads}
+use Rattle.recv.specs.Laws.State.{Sound, sound-test}
 use Rattle.recv.specs.Laws.Steps.{length-put-in, length-put-out, run-le}
+use Rattle.recv.specs.Laws.Table.{waits-zero, no-wait}
 use Rattle.recv.specs.declared.ReceiveBuffer.{ReceiveBuffer}
 
 pub record Shape (r : Receiver) : Type 0 where
@@ -94,8 +93,8 @@ module _ (old buf : List ℕ) (r : Receiver) where
       same-receiver
       (ap (λ (l : List ℕ). take (length (r .ready)) l) room-split ∙ take-append-seam (r .ready) behind)
       (ap (λ (t : List ℕ). payloadsOf t (drop (length (r .ready)) (roomOf buf r))) table-back
-        ∙ ap (λ (l : List ℕ). payloadsOf (lengthsOf (r .waiting)) l) (ap (λ (l : List ℕ). drop (length (r .ready)) l) room-split ∙ drop-append-seam (r .ready) behind)
-        ∙ payloads-back (r .waiting) (drop (length (r .ready ++ joined (r .waiting))) buf))
+      ∙ ap (λ (l : List ℕ). payloadsOf (lengthsOf (r .waiting)) l) (ap (λ (l : List ℕ). drop (length (r .ready)) l) room-split ∙ drop-append-seam (r .ready) behind)
+      ∙ payloads-back (r .waiting) (drop (length (r .ready ++ joined (r .waiting))) buf))
     where
       same-receiver : {a : List ℕ} {w : List (Option (List ℕ))} → a ≡ r .ready → w ≡ r .waiting
           → _≡_ {A = Receiver} (record { initial = r .initial; length = r .length; count = r .count; ready = a; waiting = w }) r

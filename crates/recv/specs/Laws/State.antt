@@ -1,13 +1,11 @@
 -- The soundness test, by the cases in which it is worked out.
-use Prim.Native.Nat.{ℕ, _+_, _-_, _≤_, _<_}
-use mathlib.Core.Path.{_≡_, refl, ap, sym, _∙_}
-use mathlib.Core.Bool.{Bool, true, false, cond, not, _&&_}
-use mathlib.Core.List.{List, [], _∷_}
+use Prim.Native.Nat.{_+_, _-_, _≤_, _<_}
+use mathlib.Core.Bool.{Bool, true, false, not, _&&_}
+use mathlib.Core.Path.{_≡_, refl, _∙_}
 use native.Mathlib.Nat.{add-zero}
-use native.Mathlib.Omega.{arith}
-use borrow.Author.Tests.{le-leb, lt-leb, leb-true, not-true}
+use borrow.Author.Tests.{le-leb, leb-true, not-true}
 use lib.Dec.{leb}
-use lib.ListN.{length, take, getD}
+use lib.ListN.{length, getD}
 use lib.Seq.{getD-take}
 use Rattle.recv.specs.Table.{waits, bytesIn, lastWaits, largestLength, limit, ahead}
 use Rattle.recv.specs.State.{soundOf, tableOf}

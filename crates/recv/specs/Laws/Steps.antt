@@ -1,20 +1,20 @@
 -- The steps in which a write is worked out, on numbers alone and on bytes alone. Nothing here is to be believed: the laws tie each to the definitions.
 use Prim.Native.Nat.{ℕ, zero, suc, _+_, _-_, _≤_, _<_, zero-le, suc-le-suc}
+use mathlib.Core.Bool.{false}
+use mathlib.Core.List.{List, [], _∷_, _++_}
+use mathlib.Core.Path.{_≡_, refl, ap, sym, _∙_}
 use native.Mathlib.Nat.{zero-add, suc-add, sub-zero, not-suc-le-zero, le-of-suc-le-suc}
 use native.Mathlib.Numerals.{add-one, one-add}
-use mathlib.Core.Path.{_≡_, refl, ap, sym, _∙_}
-use mathlib.Core.Bool.{Bool, true, false}
-use mathlib.Core.List.{List, [], _∷_, _++_}
 use native.Mathlib.Omega.{arith}
 use lib.ListN.{length, take, drop, set, getD, replicate, length-replicate, length-drop}
 use lib.Seq.{paste, take-all, take-take, drop-cons, drop-drop, length-take-le}
 use Rattle.packet.specs.declared.seq.SeqNum.{SeqNum}
-use Rattle.recv.specs.Laws.Moves.{over-front, drop-take}
-use Rattle.recv.specs.Laws.Table.{no-wait, bytesIn-take-le}
 use Rattle.recv.specs.Table.{waits, bytesIn, runOf}
 use Rattle.recv.specs.State.{tableOf}
 use Rattle.recv.specs.Receiver.{putAt}
 use Rattle.recv.specs.Calls.{over}
+use Rattle.recv.specs.Laws.Moves.{over-front, drop-take}
+use Rattle.recv.specs.Laws.Table.{no-wait, bytesIn-take-le}
 use Rattle.recv.specs.declared.ReceiveBuffer.{ReceiveBuffer}
 
 -- a payload put in at `at`, before `count` bytes that move up

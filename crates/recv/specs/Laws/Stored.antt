@@ -1,21 +1,21 @@
 -- A write and a read, from the numbers and the bytes that the code works out to the receiver that the definitions speak of.
-use Prim.Native.Nat.{ℕ, zero, suc, _+_, _-_, _≤_, _<_}
-use mathlib.Core.Path.{_≡_, refl, ap, sym, _∙_}
-use mathlib.Core.Bool.{Bool, true, false}
-use mathlib.Core.List.{List, [], _∷_, _++_, append-assoc}
+use Prim.Native.Nat.{ℕ, suc, _+_, _-_, _≤_}
+use mathlib.Core.Bool.{false}
+use mathlib.Core.List.{List, _++_, append-assoc}
 use mathlib.Core.Option.{Option, none, some}
+use mathlib.Core.Path.{_≡_, refl, ap, sym, _∙_}
 use native.Mathlib.Nat.{zero-add, le-trans}
 use native.Mathlib.Omega.{arith}
 use lib.ListN.{length, take, drop, getD, length-append, length-drop, length-map, take-append-drop}
 use lib.Seq.{paste, take-add, take-take, drop-drop, drop-at, length-take-le}
 use Rattle.recv.specs.Table.{waits, bytesIn, runOf}
 use Rattle.recv.specs.State.{tableOf}
-use Rattle.recv.specs.Receiver.{Receiver, joined, entryOf, lengthsOf, putAt, nextReady, storedOf, readOf}
+use Rattle.recv.specs.Receiver.{joined, entryOf, lengthsOf, putAt, storedOf, readOf}
 use Rattle.recv.specs.Calls.{payloadsOf, receiverOf, over, stateOf, roomOf}
 use Rattle.recv.specs.Laws.Moves.{over-front, drop-take}
-use Rattle.recv.specs.Laws.Table.{bytesIn-take-le}
 use Rattle.recv.specs.Laws.Payloads.{lengths-take, lengths-drop, lengths-put, joined-append, length-joined, joined-put, lengths-payloads, joined-payloads, take-payloads, length-payloads, none-payloads}
 use Rattle.recv.specs.Laws.Steps.{insertedOf, placedOf, same-state}
+use Rattle.recv.specs.Laws.Table.{bytesIn-take-le}
 use Rattle.recv.specs.declared.ReceiveBuffer.{ReceiveBuffer}
 
 -- the state in numbers, from the table before the next payloads become ready

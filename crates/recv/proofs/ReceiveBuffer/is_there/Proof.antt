@@ -1,25 +1,19 @@
-use Rattle.recv.specs.Laws.Table.{there-behind, there-ahead}
-use mathlib.Core.Path.{_≡_, sym, ap, _∙_}
+-- At most the count is there; past it, what waits is.
+use mathlib.Core.Path.{sym, _∙_}
 use borrow.Author.Needs.{needs}
+use Rattle.recv.specs.Laws.Table.{there-behind, there-ahead}
 use Rattle.recv.proofs.ReceiveBuffer.is_there.Statement.{statement}
 use Rattle.recv.proofs.ReceiveBuffer.is_there.Tie as tie
-use Rattle.recv.proofs.ReceiveBuffer.is_there.Reads as reads
-use Rattle.recv.proofs.ReceiveBuffer.is_there.Lts as lts
-use Rattle.recv.proofs.waiting.waits_at.Reads as waits-at-reads
 
--- src/lib.rt:245:13
 returns : tie.Need-returns
 returns c = sym (there-behind _ _ _ (c .if1 .taken))
 
--- src/lib.rt:247:42
 cast-waits-at : tie.Need-cast-waits-at
 cast-waits-at c = search needs
 
--- src/lib.rt:247:9
 waits-at-requires : tie.Need-waits-at-requires
 waits-at-requires c κs = search needs
 
--- src/lib.rt:240:5
 returns-2 : tie.Need-returns-2
 returns-2 c = c .waits-at .ensures ∙ sym (there-ahead _ _ _ (c .before .before .before .if1 .left))
 

@@ -1,68 +1,51 @@
+-- Past a gap nothing becomes ready: the entry goes into the table (`placed-in`), or beyond its end with zeros between (`placed-past`).
+use Prim.Native.Nat.{ℕ, _+_}
+use mathlib.Core.List.{List}
+use mathlib.Core.Path.{sym, ap, _∙_}
+use native.Mathlib.Omega.{arith}
+use borrow.Author.Needs.{needs}
+use lib.ListN.{length, set, length-map}
 use Rattle.recv.specs.Laws.Steps.{placed-in, placed-past}
 use Rattle.recv.specs.declared.ReceiveBuffer.{ReceiveBuffer}
-use Rattle.recv.specs.Table.{bytesIn, runOf}
-use Rattle.recv.specs.State.{tableOf}
-use lib.Seq.{paste}
-use lib.ListN.{length, take, drop, set, length-map}
-use native.Mathlib.Omega.{arith}
-use mathlib.Core.List.{List}
-use mathlib.Core.Path.{_≡_, refl, sym, ap, _∙_}
-use Prim.Native.Nat.{ℕ, _+_, _-_, _≤_, _<_}
-use borrow.Author.Needs.{needs}
 use Rattle.recv.proofs.ReceiveBuffer.kept.Statement.{statement}
 use Rattle.recv.proofs.ReceiveBuffer.kept.Tie as tie
-use Rattle.recv.proofs.ReceiveBuffer.kept.Reads as reads
-use Rattle.recv.proofs.ReceiveBuffer.kept.Lts as lts
-use Rattle.recv.proofs.waiting.clear.Reads as clear-reads
 
--- src/lib.rt:356:20
 cast-span : tie.Need-cast-span
 cast-span c = search needs
 
--- src/lib.rt:360:30
 add-waiting : tie.Need-add-waiting
 add-waiting c = search needs
 
--- src/lib.rt:360:13
 mul-waiting : tie.Need-mul-waiting
 mul-waiting c = search needs
 
--- src/lib.rt:360:13
 array-write-waiting : tie.Need-array-write-waiting
 array-write-waiting c = search needs
 
--- src/lib.rt:361:13
 returns : tie.Need-returns
 returns c =
     let start = c .before .before .before .before in
     let all = simp length-map at (start .good .0 .1 .1 .1 .1 .1 .1 .1 .0 .1 .0 .1) in
     sym (placed-in (start .args .self) (start .args .n) (omega arith) (start .pre .0 .first) (start .args .place) (start .pre .1) (c .if1 .taken))
 
--- src/lib.rt:370:9
 clear-requires : tie.Need-clear-requires
 clear-requires c κs = search needs
 
--- src/lib.rt:371:26
 add-waiting-2 : tie.Need-add-waiting-2
 add-waiting-2 c = search needs
 
--- src/lib.rt:371:9
 mul-waiting-2 : tie.Need-mul-waiting-2
 mul-waiting-2 c = search needs
 
--- src/lib.rt:371:9
 array-write-waiting-2 : tie.Need-array-write-waiting-2
 array-write-waiting-2 c = search needs
 
--- src/lib.rt:377:20
 add-t15 : tie.Need-add-t15
 add-t15 c = search needs
 
--- src/lib.rt:377:19
 cast-t16 : tie.Need-cast-t16
 cast-t16 c = search needs
 
--- src/lib.rt:352:5
 returns-2 : tie.Need-returns-2
 returns-2 c =
     let start = c .before .before .before .before .before .before in

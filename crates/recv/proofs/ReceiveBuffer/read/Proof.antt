@@ -1,26 +1,17 @@
+-- 19 and 18 come first, and then as many bytes are taken as there are and fit: `take` says what that leaves.
+use mathlib.Core.Path.{sym, _∙_}
+use native.Mathlib.Omega.{arith}
+use borrow.Author.Needs.{needs}
+use borrow.Author.Tests.{not-true, not-false}
+use lib.ListN.{length-map}
 use Rattle.recv.specs.Laws.Reading.{unsound-taken, unsound-room, unsound-out, other-taken, other-room, other-out, done-taken, done-room, done-out}
 use Rattle.recv.specs.Laws.State.{sound-facts}
-use borrow.Author.Tests.{not-true, not-false}
-use lib.Seq.{paste}
-use lib.ListN.{length, drop, length-map}
-use native.Mathlib.Omega.{arith}
-use mathlib.Core.List.{List}
-use mathlib.Core.Path.{_≡_, refl, sym, ap, _∙_}
-use Prim.Native.Nat.{ℕ, _+_, _-_, _≤_, _<_, min}
-use borrow.Author.Needs.{needs}
 use Rattle.recv.proofs.ReceiveBuffer.read.Statement.{statement}
 use Rattle.recv.proofs.ReceiveBuffer.read.Tie as tie
-use Rattle.recv.proofs.ReceiveBuffer.read.Reads as reads
-use Rattle.recv.proofs.ReceiveBuffer.read.Lts as lts
-use Rattle.recv.proofs.ReceiveBuffer.is_sound.Reads as is-sound-reads
-use Rattle.recv.proofs.ReceiveBuffer.take.Reads as take-reads
-use Rattle.recv.proofs.smaller.Reads as smaller-reads
 
--- src/lib.rt:188:13
 is-sound-requires : tie.Need-is-sound-requires
 is-sound-requires c κs = search needs
 
--- src/lib.rt:189:13
 returns : tie.Need-returns
 returns c =
     let a = c .before .before .before .before .args in
@@ -30,11 +21,9 @@ returns c =
     let no = sym (c .before .is-sound .ensures) ∙ not-true _ (c .if1 .taken) in
     (unsound-taken s buf out no, unsound-room s buf out no, unsound-out s buf out no)
 
--- src/lib.rt:194:25
 cast-if2 : tie.Need-cast-if2
 cast-if2 c = search needs
 
--- src/lib.rt:195:13
 returns-2 : tie.Need-returns-2
 returns-2 c =
     let a = c .before .before .before .before .before .before .args in
@@ -45,15 +34,12 @@ returns-2 c =
     let other = c .if2 .taken in
     (other-taken s buf out yes other, other-room s buf out yes other, other-out s buf out yes other)
 
--- src/lib.rt:200:36
 cast-smaller : tie.Need-cast-smaller
 cast-smaller c = search needs
 
--- src/lib.rt:200:13
 smaller-requires : tie.Need-smaller-requires
 smaller-requires c κs = search needs
 
--- src/lib.rt:201:13
 take-requires : tie.Need-take-requires
 take-requires c κs =
     let start = c .before .before .before .before .before .before .before .before .before .before in
@@ -67,15 +53,12 @@ take-requires c κs =
       some-room = omega (arith, c .before .before .smaller .ensures);
     }
 
--- src/lib.rt:185:5
 same-length : tie.Need-same-length
 same-length c = search needs
 
--- src/lib.rt:185:5
 same-length-2 : tie.Need-same-length-2
 same-length-2 c = search needs
 
--- src/lib.rt:185:5
 returns-3 : tie.Need-returns-3
 returns-3 c =
     let a = c .before .before .before .before .before .before .before .before .before .before .before .before .before .before .before .args in

@@ -1,21 +1,17 @@
-use mathlib.Core.Bool.{true, false}
-use Rattle.recv.specs.Laws.Sack.{length-sack, sack-length-is, unsound-acked, unsound-acked-room, small-acked, small-acked-room, done-acked, done-acked-room}
-use Rattle.recv.specs.Laws.State.{sound-facts}
-use Rattle.recv.specs.State.{tableOf, soundOf}
-use Rattle.recv.specs.Table.{sackOf, sackLengthOf}
+-- The length that is worked out from the count of places is that of the selective ACK; where it fits, `fill` writes it.
+use Prim.Native.Nat.{_<_}
+use mathlib.Core.Bool.{true}
+use mathlib.Core.Path.{_≡_, sym, _∙_}
+use native.Mathlib.Omega.{arith}
+use borrow.Author.Needs.{needs}
 use borrow.Author.Tests.{not-true, not-false}
 use lib.ListN.{length, length-map}
-use native.Mathlib.Omega.{arith}
-use mathlib.Core.Path.{_≡_, refl, sym, ap, _∙_}
-use Prim.Native.Nat.{ℕ, _+_, _-_, _≤_, _<_}
-use borrow.Author.Needs.{needs}
+use Rattle.recv.specs.Table.{sackOf, sackLengthOf}
+use Rattle.recv.specs.State.{tableOf, soundOf}
+use Rattle.recv.specs.Laws.Sack.{length-sack, sack-length-is, unsound-acked, unsound-acked-room, small-acked, small-acked-room, done-acked, done-acked-room}
+use Rattle.recv.specs.Laws.State.{sound-facts}
 use Rattle.recv.proofs.ReceiveBuffer.selective_ack.Statement.{statement}
 use Rattle.recv.proofs.ReceiveBuffer.selective_ack.Tie as tie
-use Rattle.recv.proofs.ReceiveBuffer.selective_ack.Reads as reads
-use Rattle.recv.proofs.ReceiveBuffer.selective_ack.Lts as lts
-use Rattle.recv.proofs.ReceiveBuffer.is_sound.Reads as is-sound-reads
-use Rattle.recv.proofs.sack.fill.Reads as fill-reads
-use Rattle.recv.proofs.sack.length_for.Reads as length-for-reads
 
 -- the state is sound
 sound-at : (c : tie.Else1) → soundOf (c .before .before .before .args .t1) ≡ true
@@ -29,26 +25,21 @@ is-length c =
     let all = simp length-map at (start .good .0 .1 .1 .1 .1 .1 .1 .1 .0 .1 .0 .1) in
     c .length-for .ensures ∙ sack-length-is (start .args .t1) (omega (arith, sound .places, all))
 
--- src/lib.rt:275:13
 is-sound-requires : tie.Need-is-sound-requires
 is-sound-requires c κs = search needs
 
--- src/lib.rt:276:13
 returns : tie.Need-returns
 returns c =
     let a = c .before .before .before .args in
     let no = sym (c .before .is-sound .ensures) ∙ not-true _ (c .if1 .taken) in
     (unsound-acked (a .t1) (a .room .now) no, unsound-acked-room (a .t1) (a .room .now) no)
 
--- src/lib.rt:278:20
 cast-span : tie.Need-cast-span
 cast-span c = search needs
 
--- src/lib.rt:279:13
 length-for-requires : tie.Need-length-for-requires
 length-for-requires c κs = sound-facts _ (sound-at c) .places
 
--- src/lib.rt:281:13
 returns-2 : tie.Need-returns-2
 returns-2 c =
     let a = c .before .before .before .before .before .args in
@@ -56,17 +47,14 @@ returns-2 c =
     let short : length (a .room .now) < length (sackOf (tableOf (a .t1))) = omega (arith, size, c .if2 .taken) in
     (small-acked (a .t1) (a .room .now) (sound-at (c .before .before)) short, small-acked-room (a .t1) (a .room .now) (sound-at (c .before .before)) short)
 
--- src/lib.rt:283:9
 fill-requires : tie.Need-fill-requires
 fill-requires c κs =
     let sound = sound-facts _ (sound-at (c .before .before .before .before .before)) in
     (sound .places, c .before .before .before .if2 .left, is-length (c .before .before .before .before), omega (arith, sound .places, c .before .before .before .before .length-for .ensures))
 
--- src/lib.rt:272:5
 same-length : tie.Need-same-length
 same-length c = search needs
 
--- src/lib.rt:272:5
 returns-3 : tie.Need-returns-3
 returns-3 c =
     let a = c .before .before .before .before .before .before .before .before .before .before .before .args in

@@ -1,27 +1,19 @@
-use Rattle.recv.specs.Laws.Stored.{placed-stored, room-stored}
-use Rattle.recv.specs.Laws.Steps.{Placeable, placedOf, insertedOf}
-use Rattle.recv.specs.Laws.Answers.{Stores, stores}
-use Rattle.recv.specs.Laws.Table.{bytesIn-take-le}
+-- That the answer is `Stored` tells that the place is free and the bytes fit. The payload goes in behind those that wait before it (`room-stored`), and the table is `placed-stored`'s.
+use Prim.Native.Nat.{ℕ, _+_, _-_, _≤_}
+use mathlib.Core.Path.{_≡_, sym, ap, _∙_}
+use native.Mathlib.Omega.{arith}
+use borrow.Author.Needs.{needs}
+use lib.ListN.{length, take, drop, length-drop}
 use Rattle.packet.specs.Seq.{offsetOf}
 use Rattle.packet.specs.declared.seq.Offset.{Offset}
-use Rattle.recv.specs.declared.ReceiveBuffer.{ReceiveBuffer}
 use Rattle.recv.specs.Table.{bytesIn}
 use Rattle.recv.specs.State.{tableOf}
-use lib.ListN.{length, take, drop, length-drop}
-use native.Mathlib.Omega.{arith}
-use mathlib.Core.List.{List}
-use mathlib.Core.Path.{_≡_, refl, sym, ap, _∙_}
-use Prim.Native.Nat.{ℕ, _+_, _-_, _≤_, _<_}
-use borrow.Author.Needs.{needs}
+use Rattle.recv.specs.Laws.Answers.{Stores, stores}
+use Rattle.recv.specs.Laws.Steps.{placedOf, insertedOf}
+use Rattle.recv.specs.Laws.Stored.{placed-stored, room-stored}
+use Rattle.recv.specs.Laws.Table.{bytesIn-take-le}
 use Rattle.recv.proofs.ReceiveBuffer.store.Statement.{statement}
 use Rattle.recv.proofs.ReceiveBuffer.store.Tie as tie
-use Rattle.recv.proofs.ReceiveBuffer.store.Reads as reads
-use Rattle.recv.proofs.ReceiveBuffer.store.Lts as lts
-use Rattle.packet.proofs.seq.SeqNum.offset_from.Reads as offset-from-reads
-use Rattle.recv.proofs.ReceiveBuffer.placed.Reads as placed-reads
-use Rattle.recv.proofs.bytes.insert.Reads as insert-reads
-use Rattle.recv.proofs.waiting.bytes_before.Reads as bytes-before-reads
-use Rattle.recv.proofs.waiting.bytes_in.Reads as bytes-in-reads
 
 -- what the answer tells
 stored-at : (c : tie.Start) → Stores (c .args .t1) (length (c .args .buf .now)) (offsetOf (c .args .number) (c .args .t1 .initial) .0) (length (c .args .payload .now))
@@ -31,49 +23,39 @@ stored-at c = stores (c .args .t1) (length (c .args .buf .now)) (c .args .number
 offset-is : (c : tie.After-offset-from) → c .offset-from .result .0 ≡ offsetOf (c .before .before .before .before .args .number) (c .before .before .before .before .args .t1 .initial) .0
 offset-is c = ap (λ (d : Offset). d .0) (c .offset-from .ensures)
 
--- src/lib.rt:322:13
 offset-from-requires : tie.Need-offset-from-requires
 offset-from-requires c κs = search needs
 
--- src/lib.rt:323:22
 cast-place : tie.Need-cast-place
 cast-place c = search needs
 
--- src/lib.rt:323:22
 sub-place : tie.Need-sub-place
 sub-place c =
     let known = stored-at (c .before .before .before .before .before) in
     let same = offset-is (c .before) in
     omega arith
 
--- src/lib.rt:323:22
 sub-place-2 : tie.Need-sub-place-2
 sub-place-2 c =
     let known = stored-at (c .before .before .before .before .before) in
     let same = offset-is (c .before) in
     omega arith
 
--- src/lib.rt:323:21
 cast-place-2 : tie.Need-cast-place-2
 cast-place-2 c = search needs
 
--- src/lib.rt:324:20
 cast-span : tie.Need-cast-span
 cast-span c = search needs
 
--- src/lib.rt:325:20
 bytes-in-requires : tie.Need-bytes-in-requires
 bytes-in-requires c κs = stored-at (c .before .before .before .before .before .before .before) .sound .places
 
--- src/lib.rt:326:22
 bytes-before-requires : tie.Need-bytes-before-requires
 bytes-before-requires c κs = stored-at (c .before .before .before .before .before .before .before .before .before .before) .sound .places
 
--- src/lib.rt:327:28
 cast-insert : tie.Need-cast-insert
 cast-insert c = search needs
 
--- src/lib.rt:327:28
 add-insert : tie.Need-add-insert
 add-insert c =
     let known = stored-at (c .before .before .before .before .before .before .before .before .before .before .before .before) in
@@ -84,7 +66,6 @@ add-insert c =
     let less = bytesIn-take-le (tableOf s) (c .before .before .before .before .before .before .before .before .offset-from .result .0 - s .count - 1) in
     omega (arith, known, before, less)
 
--- src/lib.rt:327:58
 sub-insert : tie.Need-sub-insert
 sub-insert c =
     let known = stored-at (c .before .before .before .before .before .before .before .before .before .before .before .before) in
@@ -95,7 +76,6 @@ sub-insert c =
     let less = bytesIn-take-le (tableOf s) (c .before .before .before .before .before .before .before .before .offset-from .result .0 - s .count - 1) in
     omega (arith, held, before, less)
 
--- src/lib.rt:327:9
 insert-requires : tie.Need-insert-requires
 insert-requires c κs =
     let known = stored-at (c .before .before .before .before .before .before .before .before .before .before .before .before) in
@@ -106,13 +86,11 @@ insert-requires c κs =
     let less = bytesIn-take-le (tableOf s) (c .before .before .before .before .before .before .before .before .offset-from .result .0 - s .count - 1) in
     omega (arith, known, held, before, less)
 
--- src/lib.rt:328:28
 cast-placed : tie.Need-cast-placed
 cast-placed c =
     let known = stored-at (c .before .before .before .before .before .before .before .before .before .before .before .before .before .before .before) in
     omega (arith, known)
 
--- src/lib.rt:328:9
 placed-requires : tie.Need-placed-requires
 placed-requires c κs =
     let known = stored-at (c .before .before .before .before .before .before .before .before .before .before .before .before .before .before .before) in
@@ -125,11 +103,9 @@ placed-requires c κs =
       fits = omega (arith, known);
     }
 
--- src/lib.rt:317:5
 same-length : tie.Need-same-length
 same-length c = search needs
 
--- src/lib.rt:317:5
 returns : tie.Need-returns
 returns c =
     let start = c .before .before .before .before .before .before .before .before .before .before .before .before .before .before .before .before in

@@ -1,36 +1,26 @@
-use Rattle.recv.specs.declared.Count.the-variants.{Is}
-use native.Mathlib.Omega.{arith}
-use Prim.Native.Nat.{ℕ}
-use Rattle.recv.specs.Laws.State.{sound-facts}
-use Rattle.recv.specs.Laws.Cases.{cond-true, cond-false}
-use mathlib.Core.Path.{_≡_, sym, ap, _∙_}
+-- The sum over the table, where the state is sound.
+use mathlib.Core.Path.{sym, ap, _∙_}
 use borrow.Author.Needs.{needs}
+use Rattle.recv.specs.Laws.Cases.{cond-true, cond-false}
+use Rattle.recv.specs.Laws.State.{sound-facts}
+use Rattle.recv.specs.declared.Count.the-variants.{Is}
 use Rattle.recv.proofs.ReceiveBuffer.waiting_bytes.Statement.{statement}
 use Rattle.recv.proofs.ReceiveBuffer.waiting_bytes.Tie as tie
-use Rattle.recv.proofs.ReceiveBuffer.waiting_bytes.Reads as reads
-use Rattle.recv.proofs.ReceiveBuffer.waiting_bytes.Lts as lts
-use Rattle.recv.proofs.ReceiveBuffer.is_sound.Reads as is-sound-reads
-use Rattle.recv.proofs.waiting.bytes_in.Reads as bytes-in-reads
 
--- src/lib.rt:232:12
 is-sound-requires : tie.Need-is-sound-requires
 is-sound-requires c κs = search needs
 
--- src/lib.rt:233:56
 cast-bytes-in : tie.Need-cast-bytes-in
 cast-bytes-in c = search needs
 
--- src/lib.rt:233:23
 bytes-in-requires : tie.Need-bytes-in-requires
 bytes-in-requires c κs = sound-facts _ (sym (c .before .before .before .is-sound .ensures) ∙ c .before .before .if1 .taken) .places
 
--- src/lib.rt:229:5
 returns : tie.Need-returns
 returns c =
     let yes = sym (c .before .before .before .before .is-sound .ensures) ∙ c .before .before .before .if1 .taken in
     ap Is (c .bytes-in .ensures .0) ∙ sym (cond-true _ _ _ yes)
 
--- src/lib.rt:229:5
 returns-2 : tie.Need-returns-2
 returns-2 c =
     sym (cond-false _ _ _ (sym (c .before .is-sound .ensures) ∙ c .if1 .left))

@@ -1,44 +1,32 @@
+-- The number's offset is there exactly when `is_there` says so.
+use mathlib.Core.Path.{sym, ap, _∙_}
+use borrow.Author.Needs.{needs}
 use Rattle.packet.specs.declared.seq.Offset.{Offset}
-use Rattle.recv.specs.State.{tableOf}
 use Rattle.recv.specs.Table.{thereOf}
-use Rattle.recv.specs.declared.Truth.the-variants.{Is}
-use native.Mathlib.Omega.{arith}
-use Prim.Native.Nat.{ℕ}
+use Rattle.recv.specs.State.{tableOf}
 use Rattle.recv.specs.Laws.Cases.{cond-true, cond-false}
 use Rattle.recv.specs.Laws.State.{sound-facts}
-use mathlib.Core.Path.{_≡_, sym, ap, _∙_}
-use borrow.Author.Needs.{needs}
+use Rattle.recv.specs.declared.Truth.the-variants.{Is}
 use Rattle.recv.proofs.ReceiveBuffer.was_written.Statement.{statement}
 use Rattle.recv.proofs.ReceiveBuffer.was_written.Tie as tie
-use Rattle.recv.proofs.ReceiveBuffer.was_written.Reads as reads
-use Rattle.recv.proofs.ReceiveBuffer.was_written.Lts as lts
-use Rattle.packet.proofs.seq.SeqNum.offset_from.Reads as offset-from-reads
-use Rattle.recv.proofs.ReceiveBuffer.is_sound.Reads as is-sound-reads
-use Rattle.recv.proofs.ReceiveBuffer.is_there.Reads as is-there-reads
 
--- src/lib.rt:174:12
 is-sound-requires : tie.Need-is-sound-requires
 is-sound-requires c κs = search needs
 
--- src/lib.rt:176:17
 offset-from-requires : tie.Need-offset-from-requires
 offset-from-requires c κs = search needs
 
--- src/lib.rt:177:37
 cast-is-there : tie.Need-cast-is-there
 cast-is-there c = search needs
 
--- src/lib.rt:177:23
 is-there-requires : tie.Need-is-there-requires
 is-there-requires c κs = sound-facts _ (sym (c .before .before .before .before .is-sound .ensures) ∙ c .before .before .before .if1 .taken) .places
 
--- src/lib.rt:171:5
 returns : tie.Need-returns
 returns c =
     let s = c .before .before .before .before .before .before .args .self in
     ap Is (c .is-there .ensures ∙ ap (λ (o : Offset). thereOf (s .count) (tableOf s) (o .0)) (c .before .before .offset-from .ensures)) ∙ sym (cond-true _ _ _ (sym (c .before .before .before .before .before .is-sound .ensures) ∙ c .before .before .before .before .if1 .taken))
 
--- src/lib.rt:171:5
 returns-2 : tie.Need-returns-2
 returns-2 c = sym (cond-false _ _ _ (sym (c .before .is-sound .ensures) ∙ c .if1 .left))
 

@@ -1,54 +1,39 @@
-use Rattle.recv.specs.Laws.Answers.{answer-unsound, answer-other, answer-rule, rule-there, rule-limit, rule-ahead, rule-long, rule-stored}
-use Rattle.recv.specs.Laws.State.{sound-facts}
+-- The tests stand in document 01's order, so each return is the rule at the tests that led there.
+use Prim.Native.Nat.{ℕ}
+use mathlib.Core.Path.{_≡_, sym, ap, _∙_}
+use native.Mathlib.Omega.{arith}
+use borrow.Author.Needs.{needs}
+use borrow.Author.Tests.{not-true, not-false}
 use Rattle.packet.specs.Seq.{offsetOf}
 use Rattle.packet.specs.declared.seq.Offset.{Offset}
 use Rattle.recv.specs.Table.{thereOf}
-use Rattle.recv.specs.State.{soundOf, tableOf}
-use Prim.Native.Nat.{ℕ, _<_, _≤_, _+_}
-use lib.Dec.{eqb}
-use borrow.Author.Tests.{not-true, not-false}
-use mathlib.Core.Bool.{true, false}
-use native.Mathlib.Omega.{arith}
-use mathlib.Core.Path.{_≡_, sym, ap, _∙_}
-use borrow.Author.Needs.{needs}
+use Rattle.recv.specs.State.{tableOf}
+use Rattle.recv.specs.Laws.Answers.{answer-unsound, answer-other, answer-rule, rule-there, rule-limit, rule-ahead, rule-long, rule-stored}
+use Rattle.recv.specs.Laws.State.{sound-facts}
 use Rattle.recv.proofs.ReceiveBuffer.writing.Statement.{statement}
 use Rattle.recv.proofs.ReceiveBuffer.writing.Tie as tie
-use Rattle.recv.proofs.ReceiveBuffer.writing.Reads as reads
-use Rattle.recv.proofs.ReceiveBuffer.writing.Lts as lts
-use Rattle.packet.proofs.seq.SeqNum.offset_from.Reads as offset-from-reads
-use Rattle.recv.proofs.ReceiveBuffer.is_sound.Reads as is-sound-reads
-use Rattle.recv.proofs.ReceiveBuffer.is_there.Reads as is-there-reads
-use Rattle.recv.proofs.waiting.bytes_in.Reads as bytes-in-reads
 
--- src/lib.rt:288:13
 is-sound-requires : tie.Need-is-sound-requires
 is-sound-requires c κs = search needs
 
--- src/lib.rt:289:13
 returns : tie.Need-returns
 returns c = sym (answer-unsound _ _ _ _ (sym (c .before .is-sound .ensures) ∙ not-true _ (c .if1 .taken)))
 
--- src/lib.rt:291:20
 cast-if2 : tie.Need-cast-if2
 cast-if2 c = search needs
 
--- src/lib.rt:292:13
 returns-2 : tie.Need-returns-2
 returns-2 c = sym (answer-other _ _ _ _ (sym (c .before .before .is-sound .ensures) ∙ not-false _ (c .before .if1 .left)) (c .if2 .taken))
 
--- src/lib.rt:295:13
 offset-from-requires : tie.Need-offset-from-requires
 offset-from-requires c κs = search needs
 
--- src/lib.rt:296:22
 cast-offset : tie.Need-cast-offset
 cast-offset c = search needs
 
--- src/lib.rt:297:12
 is-there-requires : tie.Need-is-there-requires
 is-there-requires c κs = sound-facts _ (sym (c .before .before .before .before .before .is-sound .ensures) ∙ not-false _ (c .before .before .before .before .if1 .left)) .places
 
--- src/lib.rt:298:13
 returns-3 : tie.Need-returns-3
 returns-3 c =
     let a = c .before .before .before .before .before .before .before .before .args in
@@ -58,7 +43,6 @@ returns-3 c =
     let rule = answer-rule s (a .size) (a .number) (a .n) (sym (c .before .before .before .before .before .before .before .is-sound .ensures) ∙ not-false _ (c .before .before .before .before .before .before .if1 .left)) (c .before .before .before .before .before .if2 .left) in
     sym (rule ∙ rule-there (s .length) (s .count) (s .ready) (tableOf s) o (a .n) (ap (λ (k : ℕ). thereOf (s .count) (tableOf s) k) (sym same) ∙ sym (c .before .is-there .ensures) ∙ c .if3 .taken))
 
--- src/lib.rt:301:13
 returns-4 : tie.Need-returns-4
 returns-4 c =
     let a = c .before .before .before .before .before .before .before .before .before .args in
@@ -68,13 +52,11 @@ returns-4 c =
     let rule = answer-rule s (a .size) (a .number) (a .n) (sym (c .before .before .before .before .before .before .before .before .is-sound .ensures) ∙ not-false _ (c .before .before .before .before .before .before .before .if1 .left)) (c .before .before .before .before .before .before .if2 .left) in
     sym (rule ∙ rule-limit (s .length) (s .count) (s .ready) (tableOf s) o (a .n) (ap (λ (k : ℕ). thereOf (s .count) (tableOf s) k) (sym same) ∙ sym (c .before .before .is-there .ensures) ∙ c .before .if3 .left) (omega arith))
 
--- src/lib.rt:303:21
 add-if5 : tie.Need-add-if5
 add-if5 c =
     let known = sound-facts _ (sym (c .before .before .before .before .before .before .before .before .is-sound .ensures) ∙ not-false _ (c .before .before .before .before .before .before .before .if1 .left)) in
     omega arith
 
--- src/lib.rt:304:13
 returns-5 : tie.Need-returns-5
 returns-5 c =
     let a = c .before .before .before .before .before .before .before .before .before .before .args in
@@ -84,31 +66,25 @@ returns-5 c =
     let rule = answer-rule s (a .size) (a .number) (a .n) (sym (c .before .before .before .before .before .before .before .before .before .is-sound .ensures) ∙ not-false _ (c .before .before .before .before .before .before .before .before .if1 .left)) (c .before .before .before .before .before .before .before .if2 .left) in
     sym (rule ∙ rule-ahead (s .length) (s .count) (s .ready) (tableOf s) o (a .n) (ap (λ (k : ℕ). thereOf (s .count) (tableOf s) k) (sym same) ∙ sym (c .before .before .before .is-there .ensures) ∙ c .before .before .if3 .left) (omega arith) (omega arith))
 
--- src/lib.rt:306:53
 cast-bytes-in : tie.Need-cast-bytes-in
 cast-bytes-in c = search needs
 
--- src/lib.rt:306:20
 bytes-in-requires : tie.Need-bytes-in-requires
 bytes-in-requires c κs = sound-facts _ (sym (c .before .before .before .before .before .before .before .before .before .before .before .is-sound .ensures) ∙ not-false _ (c .before .before .before .before .before .before .before .before .before .before .if1 .left)) .places
 
--- src/lib.rt:307:17
 sub-if6 : tie.Need-sub-if6
 sub-if6 c =
     let known = sound-facts _ (sym (c .before .before .before .before .before .before .before .before .before .before .before .before .is-sound .ensures) ∙ not-false _ (c .before .before .before .before .before .before .before .before .before .before .before .if1 .left)) in
     omega arith
 
--- src/lib.rt:307:16
 cast-if6 : tie.Need-cast-if6
 cast-if6 c = search needs
 
--- src/lib.rt:307:16
 sub-if6-2 : tie.Need-sub-if6-2
 sub-if6-2 c =
     let known = sound-facts _ (sym (c .before .before .before .before .before .before .before .before .before .before .before .before .is-sound .ensures) ∙ not-false _ (c .before .before .before .before .before .before .before .before .before .before .before .if1 .left)) in
     omega arith
 
--- src/lib.rt:308:13
 returns-6 : tie.Need-returns-6
 returns-6 c =
     let a = c .before .before .before .before .before .before .before .before .before .before .before .before .before .before .args in
@@ -118,7 +94,6 @@ returns-6 c =
     let rule = answer-rule s (a .size) (a .number) (a .n) (sym (c .before .before .before .before .before .before .before .before .before .before .before .before .before .is-sound .ensures) ∙ not-false _ (c .before .before .before .before .before .before .before .before .before .before .before .before .if1 .left)) (c .before .before .before .before .before .before .before .before .before .before .before .if2 .left) in
     sym (rule ∙ rule-long (s .length) (s .count) (s .ready) (tableOf s) o (a .n) (ap (λ (k : ℕ). thereOf (s .count) (tableOf s) k) (sym same) ∙ sym (c .before .before .before .before .before .before .before .is-there .ensures) ∙ c .before .before .before .before .before .before .if3 .left) (omega arith) (omega arith) (omega arith))
 
--- src/lib.rt:285:5
 returns-7 : tie.Need-returns-7
 returns-7 c =
     let a = c .before .before .before .before .before .before .before .before .before .before .before .before .before .before .args in

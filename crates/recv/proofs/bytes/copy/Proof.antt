@@ -1,15 +1,14 @@
-use lib.Seq.{paste, paste-zero, paste-suc}
-use lib.ListN.{length, drop, set, getD, length-set}
-use borrow.Author.Needs.{needs}
-use native.Mathlib.Omega.{arith}
-use native.Mathlib.Numerals.{add-one}
+-- After `done` turns the first `done` bytes of `src` stand in `dst` from `at` on, and the rest of `dst` is as it was: a turn is `paste-suc`.
+use Prim.Native.Nat.{ℕ, _+_, _-_, _≤_}
 use mathlib.Core.List.{List}
 use mathlib.Core.Path.{_≡_, refl, sym, ap, _∙_}
-use Prim.Native.Nat.{ℕ, _+_, _-_, _≤_}
+use native.Mathlib.Numerals.{add-one}
+use native.Mathlib.Omega.{arith}
+use borrow.Author.Needs.{needs}
+use lib.ListN.{length, set, getD, length-set}
+use lib.Seq.{paste, paste-zero, paste-suc}
 use Rattle.recv.proofs.bytes.copy.Statement.{statement}
 use Rattle.recv.proofs.bytes.copy.Tie as tie
-use Rattle.recv.proofs.bytes.copy.Reads as reads
-use Rattle.recv.proofs.bytes.copy.Lts as lts
 
 abbrev Inv-loop : tie.InvT-loop
 Inv-loop dst₀ at src count done₀ dst done = (done ≤ count) × (dst ≡ paste dst₀ at src done) × (length dst ≡ length dst₀)
@@ -17,31 +16,24 @@ Inv-loop dst₀ at src count done₀ dst done = (done ≤ count) × (dst ≡ pas
 abbrev μ-loop : tie.MeasureT-loop
 μ-loop dst₀ at src count done₀ dst done = count - done
 
--- src/bytes.rt:14:5
 loop-holds : tie.Need-loop-holds Inv-loop μ-loop
 loop-holds c = (omega arith, paste-zero (c .args .dst .now) (c .args .at) (c .args .src .now), refl)
 
--- src/bytes.rt:15:26
 shared-slice-read-dst : tie.Need-shared-slice-read-dst Inv-loop μ-loop
 shared-slice-read-dst c = search needs
 
--- src/bytes.rt:15:13
 add-dst : tie.Need-add-dst Inv-loop μ-loop
 add-dst c = search needs
 
--- src/bytes.rt:15:9
 slice-write-dst : tie.Need-slice-write-dst Inv-loop μ-loop
 slice-write-dst c = search needs
 
--- src/bytes.rt:16:9
 add-done : tie.Need-add-done Inv-loop μ-loop
 add-done c = search needs
 
--- src/bytes.rt:14:5
 loop-less : tie.Need-loop-less Inv-loop μ-loop
 loop-less c = search needs
 
--- src/bytes.rt:14:5
 loop-again : tie.Need-loop-again Inv-loop μ-loop
 loop-again c =
     let a = c .before .before .before .args in
@@ -54,11 +46,9 @@ loop-again c =
       length-set (turn .dst) at (getD (a .src .now) (turn .done) 0) ∙ turn .inv .2,
     )
 
--- src/bytes.rt:9:1
 same-length : tie.Need-same-length Inv-loop μ-loop
 same-length c = c .before .loop .inv .2
 
--- src/bytes.rt:9:1
 returns : tie.Need-returns Inv-loop μ-loop
 returns c =
     let a = c .before .before .args in

@@ -1,30 +1,23 @@
-use Rattle.recv.specs.Laws.Moves.{inserted}
+-- What stands behind moves up by the payload's length, and the payload goes into the gap: two pastes are one insertion (`inserted`).
 use Prim.Native.Nat.{ℕ}
 use mathlib.Core.List.{List}
-use lib.Seq.{paste}
-use lib.ListN.{length}
-use mathlib.Core.Path.{_≡_, sym, ap, _∙_}
+use mathlib.Core.Path.{ap, _∙_}
 use borrow.Author.Needs.{needs}
+use lib.ListN.{length}
+use lib.Seq.{paste}
+use Rattle.recv.specs.Laws.Moves.{inserted}
 use Rattle.recv.proofs.bytes.insert.Statement.{statement}
 use Rattle.recv.proofs.bytes.insert.Tie as tie
-use Rattle.recv.proofs.bytes.insert.Reads as reads
-use Rattle.recv.proofs.bytes.insert.Lts as lts
-use Rattle.recv.proofs.bytes.copy.Reads as copy-reads
-use Rattle.recv.proofs.bytes.move_up.Reads as move-up-reads
 
--- src/bytes.rt:51:5
 move-up-requires : tie.Need-move-up-requires
 move-up-requires c κs = search needs
 
--- src/bytes.rt:52:5
 copy-requires : tie.Need-copy-requires
 copy-requires c κs = search needs
 
--- src/bytes.rt:46:1
 same-length : tie.Need-same-length
 same-length c = search needs
 
--- src/bytes.rt:46:1
 returns : tie.Need-returns
 returns c =
     let a = c .before .before .before .before .before .before .before .before .before .before .args in

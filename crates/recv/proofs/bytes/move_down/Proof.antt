@@ -1,16 +1,15 @@
-use Rattle.recv.specs.Laws.Moves.{paste-down}
-use lib.Seq.{paste, paste-zero, paste-suc}
-use lib.ListN.{length, drop, set, getD, length-set}
-use borrow.Author.Needs.{needs}
-use native.Mathlib.Omega.{arith}
-use native.Mathlib.Numerals.{add-one}
-use mathlib.Core.List.{List}
-use mathlib.Core.Path.{_≡_, refl, sym, ap, _∙_}
+-- After `done` turns the first `done` bytes of the part stand at the front. The byte that a turn reads lies past those, so it is still the old one: `paste-down`.
 use Prim.Native.Nat.{ℕ, _+_, _-_, _≤_}
+use mathlib.Core.List.{List}
+use mathlib.Core.Path.{_≡_, refl, ap, _∙_}
+use native.Mathlib.Omega.{arith}
+use borrow.Author.Needs.{needs}
+use lib.ListN.{length, drop, set, getD, length-set}
+use lib.Seq.{paste, paste-zero}
+use Rattle.recv.specs.Laws.Moves.{paste-down}
 use Rattle.recv.proofs.bytes.move_down.Statement.{statement}
 use Rattle.recv.proofs.bytes.move_down.Tie as tie
 use Rattle.recv.proofs.bytes.move_down.Reads as reads
-use Rattle.recv.proofs.bytes.move_down.Lts as lts
 
 abbrev Inv-loop : tie.InvT-loop
 Inv-loop buf₀ from count done₀ buf done = (done ≤ count) × (buf ≡ paste buf₀ 0 (drop from buf₀) done) × (length buf ≡ length buf₀)
@@ -18,31 +17,24 @@ Inv-loop buf₀ from count done₀ buf done = (done ≤ count) × (buf ≡ paste
 abbrev μ-loop : tie.MeasureT-loop
 μ-loop buf₀ from count done₀ buf done = count - done
 
--- src/bytes.rt:26:5
 loop-holds : tie.Need-loop-holds Inv-loop μ-loop
 loop-holds c = (omega arith, paste-zero (c .args .buf .now) 0 (drop (c .args .from) (c .args .buf .now)), refl)
 
--- src/bytes.rt:27:25
 add-buf : tie.Need-add-buf Inv-loop μ-loop
 add-buf c = search needs
 
--- src/bytes.rt:27:21
 slice-read-buf : tie.Need-slice-read-buf Inv-loop μ-loop
 slice-read-buf c = search needs
 
--- src/bytes.rt:27:9
 slice-write-buf : tie.Need-slice-write-buf Inv-loop μ-loop
 slice-write-buf c = search needs
 
--- src/bytes.rt:28:9
 add-done : tie.Need-add-done Inv-loop μ-loop
 add-done c = search needs
 
--- src/bytes.rt:26:5
 loop-less : tie.Need-loop-less Inv-loop μ-loop
 loop-less c = search needs
 
--- src/bytes.rt:26:5
 loop-again : tie.Need-loop-again Inv-loop μ-loop
 loop-again c =
     let a = c .before .before .before .args in
@@ -53,11 +45,9 @@ loop-again c =
       length-set (turn .buf) (turn .done) (getD (turn .buf) from 0) ∙ turn .inv .2,
     )
 
--- src/bytes.rt:21:1
 same-length : tie.Need-same-length Inv-loop μ-loop
 same-length c = c .before .loop .inv .2
 
--- src/bytes.rt:21:1
 returns : tie.Need-returns Inv-loop μ-loop
 returns c =
     let a = c .before .before .args in

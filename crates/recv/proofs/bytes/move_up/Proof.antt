@@ -1,16 +1,15 @@
-use Rattle.recv.specs.Laws.Moves.{paste-up, paste-at}
-use lib.Seq.{paste, paste-zero, paste-suc}
-use lib.ListN.{length, drop, set, getD, length-set}
-use borrow.Author.Needs.{needs}
-use native.Mathlib.Omega.{arith}
-use native.Mathlib.Numerals.{add-one}
-use mathlib.Core.List.{List}
-use mathlib.Core.Path.{_≡_, refl, sym, ap, _∙_}
+-- With `left` bytes still to move, those behind them stand `by` places further up. The byte that a turn reads lies before those, so it is still the old one: `paste-up`.
 use Prim.Native.Nat.{ℕ, _+_, _-_, _≤_}
+use mathlib.Core.List.{List}
+use mathlib.Core.Path.{_≡_, refl, ap, _∙_}
+use native.Mathlib.Omega.{arith}
+use borrow.Author.Needs.{needs}
+use lib.ListN.{length, drop, set, getD, length-set}
+use lib.Seq.{paste, paste-zero}
+use Rattle.recv.specs.Laws.Moves.{paste-up, paste-at}
 use Rattle.recv.proofs.bytes.move_up.Statement.{statement}
 use Rattle.recv.proofs.bytes.move_up.Tie as tie
 use Rattle.recv.proofs.bytes.move_up.Reads as reads
-use Rattle.recv.proofs.bytes.move_up.Lts as lts
 
 abbrev Inv-loop : tie.InvT-loop
 Inv-loop buf₀ from count by left₀ buf left = (left ≤ count) × (buf ≡ paste buf₀ (from + by + left) (drop (from + left) buf₀) (count - left)) × (length buf ≡ length buf₀)
@@ -18,7 +17,6 @@ Inv-loop buf₀ from count by left₀ buf left = (left ≤ count) × (buf ≡ pa
 abbrev μ-loop : tie.MeasureT-loop
 μ-loop buf₀ from count by left₀ buf left = left
 
--- src/bytes.rt:38:5
 loop-holds : tie.Need-loop-holds Inv-loop μ-loop
 loop-holds c =
     let a = c .args in
@@ -26,35 +24,27 @@ loop-holds c =
     let from = a .from + a .count in
     (omega arith, paste-zero (a .buf .now) to (drop from (a .buf .now)) ∙ paste-at (a .buf .now) to to from from 0 (a .count - a .count) refl refl (omega arith), refl)
 
--- src/bytes.rt:39:9
 sub-left : tie.Need-sub-left Inv-loop μ-loop
 sub-left c = search needs
 
--- src/bytes.rt:40:37
 add-buf : tie.Need-add-buf Inv-loop μ-loop
 add-buf c = search needs
 
--- src/bytes.rt:40:33
 slice-read-buf : tie.Need-slice-read-buf Inv-loop μ-loop
 slice-read-buf c = search needs
 
--- src/bytes.rt:40:13
 add-buf-2 : tie.Need-add-buf-2 Inv-loop μ-loop
 add-buf-2 c = search needs
 
--- src/bytes.rt:40:13
 add-buf-3 : tie.Need-add-buf-3 Inv-loop μ-loop
 add-buf-3 c = search needs
 
--- src/bytes.rt:40:9
 slice-write-buf : tie.Need-slice-write-buf Inv-loop μ-loop
 slice-write-buf c = search needs
 
--- src/bytes.rt:38:5
 loop-less : tie.Need-loop-less Inv-loop μ-loop
 loop-less c = search needs
 
--- src/bytes.rt:38:5
 loop-again : tie.Need-loop-again Inv-loop μ-loop
 loop-again c =
     let a = c .before .before .before .args in
@@ -70,11 +60,9 @@ loop-again c =
       length-set (turn .buf) to (getD (turn .buf) from 0) ∙ turn .inv .2,
     )
 
--- src/bytes.rt:33:1
 same-length : tie.Need-same-length Inv-loop μ-loop
 same-length c = c .before .loop .inv .2
 
--- src/bytes.rt:33:1
 returns : tie.Need-returns Inv-loop μ-loop
 returns c =
     let a = c .before .before .args in

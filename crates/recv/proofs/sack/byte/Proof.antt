@@ -1,19 +1,14 @@
-use Rattle.recv.specs.Table.{sackBitOf}
+-- The bits go in from the highest to the lowest: with `left` to go, the value is that of the bits above (`upperOf`), and a turn doubles it and adds the next below.
+use Prim.Native.Nat.{ℕ, _+_, _-_, _*_, _≤_}
 use mathlib.Core.Bool.{cond}
-use Rattle.recv.specs.Laws.Sack.{upperOf, upper-lt, upper-more, upper-all}
-use lib.Seq.{paste, paste-zero, paste-suc, getD-take}
-use lib.ListN.{length, take, drop, set, getD, length-set, length-take, List·getD-eq-default}
-use borrow.Author.Needs.{needs}
+use mathlib.Core.Path.{_≡_, sym, ap, _∙_}
 use native.Mathlib.Omega.{arith}
-use native.Mathlib.Numerals.{add-one}
-use mathlib.Core.List.{List}
-use mathlib.Core.Path.{_≡_, refl, sym, ap, _∙_}
-use Prim.Native.Nat.{ℕ, _+_, _-_, _*_, _≤_, _<_}
+use borrow.Author.Needs.{needs}
+use lib.ListN.{take}
+use Rattle.recv.specs.Table.{sackBitOf}
+use Rattle.recv.specs.Laws.Sack.{upperOf, upper-lt, upper-more, upper-all}
 use Rattle.recv.proofs.sack.byte.Statement.{statement}
 use Rattle.recv.proofs.sack.byte.Tie as tie
-use Rattle.recv.proofs.sack.byte.Reads as reads
-use Rattle.recv.proofs.sack.byte.Lts as lts
-use Rattle.recv.proofs.sack.bit.Reads as bit-reads
 
 abbrev Inv-loop : tie.InvT-loop
 Inv-loop waiting span k value₀ left₀ value left = (left ≤ 8) × (value ≡ upperOf (take span waiting) k left)
@@ -21,43 +16,33 @@ Inv-loop waiting span k value₀ left₀ value left = (left ≤ 8) × (value ≡
 abbrev μ-loop : tie.MeasureT-loop
 μ-loop waiting span k value₀ left₀ value left = left
 
--- src/sack.rt:38:5
 loop-holds : tie.Need-loop-holds Inv-loop μ-loop
 loop-holds c = search needs
 
--- src/sack.rt:39:9
 sub-left : tie.Need-sub-left Inv-loop μ-loop
 sub-left c = search needs
 
--- src/sack.rt:40:36
 mul-bit : tie.Need-mul-bit Inv-loop μ-loop
 mul-bit c = search needs
 
--- src/sack.rt:40:36
 add-bit : tie.Need-add-bit Inv-loop μ-loop
 add-bit c = search needs
 
--- src/sack.rt:40:36
 add-bit-2 : tie.Need-add-bit-2 Inv-loop μ-loop
 add-bit-2 c = search needs
 
--- src/sack.rt:40:17
 bit-requires : tie.Need-bit-requires Inv-loop μ-loop
 bit-requires c κs = search needs
 
--- src/sack.rt:40:56
 mul-value : tie.Need-mul-value Inv-loop μ-loop
 mul-value c = omega (arith, upper-lt (take (c .before .before .before .args .span) (c .before .before .before .args .waiting .now)) (c .before .before .before .args .k) (c .before .before .loop .left))
 
--- src/sack.rt:40:17
 add-value : tie.Need-add-value Inv-loop μ-loop
 add-value c = omega (arith, upper-lt (take (c .before .before .before .args .span) (c .before .before .before .args .waiting .now)) (c .before .before .before .args .k) (c .before .before .loop .left))
 
--- src/sack.rt:38:5
 loop-less : tie.Need-loop-less Inv-loop μ-loop
 loop-less c = search needs
 
--- src/sack.rt:38:5
 loop-again : tie.Need-loop-again Inv-loop μ-loop
 loop-again c =
     let a = c .before .before .before .args in
@@ -71,11 +56,9 @@ loop-again c =
           ∙ sym (upper-more t (a .k) left (omega arith)),
     )
 
--- src/sack.rt:42:5
 cast-result : tie.Need-cast-result Inv-loop μ-loop
 cast-result c = omega (arith, upper-lt (take (c .before .before .args .span) (c .before .before .args .waiting .now)) (c .before .before .args .k) (c .before .loop .left))
 
--- src/sack.rt:32:1
 returns : tie.Need-returns Inv-loop μ-loop
 returns c =
     let a = c .before .before .args in

@@ -1,19 +1,17 @@
-use Rattle.recv.specs.Laws.Sack.{length-sack, sack-at}
-use Rattle.recv.specs.Table.{sackOf}
-use lib.Seq.{paste, paste-zero, paste-suc}
-use lib.ListN.{length, take, drop, set, getD, length-set}
-use borrow.Author.Needs.{needs}
-use native.Mathlib.Omega.{arith}
-use native.Mathlib.Numerals.{add-one}
-use native.Mathlib.Nat.{zero-add}
+-- After k turns the first k bytes of the selective ACK stand at the front of the room: a turn is `paste-suc`.
+use Prim.Native.Nat.{ℕ, _-_, _≤_}
 use mathlib.Core.List.{List}
 use mathlib.Core.Path.{_≡_, refl, sym, ap, _∙_}
-use Prim.Native.Nat.{ℕ, _+_, _-_, _*_, _≤_, _<_}
+use native.Mathlib.Nat.{zero-add}
+use native.Mathlib.Numerals.{add-one}
+use native.Mathlib.Omega.{arith}
+use borrow.Author.Needs.{needs}
+use lib.ListN.{length, take, set, getD, length-set}
+use lib.Seq.{paste, paste-zero, paste-suc}
+use Rattle.recv.specs.Table.{sackOf}
+use Rattle.recv.specs.Laws.Sack.{length-sack, sack-at}
 use Rattle.recv.proofs.sack.fill.Statement.{statement}
 use Rattle.recv.proofs.sack.fill.Tie as tie
-use Rattle.recv.proofs.sack.fill.Reads as reads
-use Rattle.recv.proofs.sack.fill.Lts as lts
-use Rattle.recv.proofs.sack.byte.Reads as byte-reads
 
 abbrev Inv-loop : tie.InvT-loop
 Inv-loop waiting span room₀ count k₀ room k = (k ≤ count) × (room ≡ paste room₀ 0 (sackOf (take span waiting)) k) × (length room ≡ length room₀)
@@ -21,29 +19,23 @@ Inv-loop waiting span room₀ count k₀ room k = (k ≤ count) × (room ≡ pas
 abbrev μ-loop : tie.MeasureT-loop
 μ-loop waiting span room₀ count k₀ room k = count - k
 
--- src/sack.rt:51:5
 loop-holds : tie.Need-loop-holds Inv-loop μ-loop
 loop-holds c =
     let a = c .before .args in
     (omega arith, paste-zero (a .room .now) 0 (sackOf (take (a .span) (a .waiting .now))), refl)
 
--- src/sack.rt:52:19
 byte-requires : tie.Need-byte-requires Inv-loop μ-loop
 byte-requires c κs = search needs
 
--- src/sack.rt:52:9
 slice-write-room : tie.Need-slice-write-room Inv-loop μ-loop
 slice-write-room c = search needs
 
--- src/sack.rt:53:9
 add-k : tie.Need-add-k Inv-loop μ-loop
 add-k c = search needs
 
--- src/sack.rt:51:5
 loop-less : tie.Need-loop-less Inv-loop μ-loop
 loop-less c = search needs
 
--- src/sack.rt:51:5
 loop-again : tie.Need-loop-again Inv-loop μ-loop
 loop-again c =
     let a = c .before .before .before .before .args in
@@ -62,11 +54,9 @@ loop-again c =
       length-set (turn .room) k (c .byte .result) ∙ turn .inv .2,
     )
 
--- src/sack.rt:46:1
 same-length : tie.Need-same-length Inv-loop μ-loop
 same-length c = search needs
 
--- src/sack.rt:46:1
 returns : tie.Need-returns Inv-loop μ-loop
 returns c =
     let a = c .before .before .before .args in

@@ -1,16 +1,14 @@
-use Prim.Native.Nat.{ℕ, _≤_, _-_, _*_, _+_}
+-- The sum over the places passed; a place adds its length, at most 2^32, so 256 of them fit.
+use Prim.Native.Nat.{ℕ, _≤_, _-_, _*_}
 use mathlib.Core.Path.{_≡_, ap, _∙_}
 use native.Mathlib.Numerals.{add-one}
 use native.Mathlib.Omega.{arith}
 use borrow.Author.Needs.{needs}
-use lib.ListN.{length, take, getD}
+use lib.ListN.{length, take}
 use Rattle.recv.specs.Table.{bytesIn}
 use Rattle.recv.specs.Laws.Table.{bytesIn-take-suc}
 use Rattle.recv.proofs.waiting.bytes_in.Statement.{statement}
 use Rattle.recv.proofs.waiting.bytes_in.Tie as tie
-use Rattle.recv.proofs.waiting.bytes_in.Reads as reads
-use Rattle.recv.proofs.waiting.bytes_in.Lts as lts
-use Rattle.recv.proofs.waiting.length_of.Reads as length-of-reads
 
 abbrev Inv-loop : tie.InvT-loop
 Inv-loop waiting span sum₀ i₀ sum i = (i ≤ span) × (sum ≡ bytesIn (take i waiting)) × (sum ≤ 4294967295 * i)
@@ -18,35 +16,27 @@ Inv-loop waiting span sum₀ i₀ sum i = (i ≤ span) × (sum ≡ bytesIn (take
 abbrev μ-loop : tie.MeasureT-loop
 μ-loop waiting span sum₀ i₀ sum i = span - i
 
--- src/waiting.rt:25:5
 loop-holds : tie.Need-loop-holds Inv-loop μ-loop
 loop-holds c = search needs
 
--- src/waiting.rt:26:26
 mul-length-of : tie.Need-mul-length-of Inv-loop μ-loop
 mul-length-of c = search needs
 
--- src/waiting.rt:26:26
 element-copy-out-length-of : tie.Need-element-copy-out-length-of Inv-loop μ-loop
 element-copy-out-length-of c = search needs
 
--- src/waiting.rt:26:16
 length-of-requires : tie.Need-length-of-requires Inv-loop μ-loop
 length-of-requires c κs = search needs
 
--- src/waiting.rt:26:9
 add-sum : tie.Need-add-sum Inv-loop μ-loop
 add-sum c = omega arith
 
--- src/waiting.rt:27:9
 add-i : tie.Need-add-i Inv-loop μ-loop
 add-i c = search needs
 
--- src/waiting.rt:25:5
 loop-less : tie.Need-loop-less Inv-loop μ-loop
 loop-less c = search needs
 
--- src/waiting.rt:25:5
 loop-again : tie.Need-loop-again Inv-loop μ-loop
 loop-again c =
     let i = c .before .before .before .loop .i in
@@ -56,7 +46,6 @@ loop-again c =
       omega arith,
     )
 
--- src/waiting.rt:19:1
 returns : tie.Need-returns Inv-loop μ-loop
 returns c =
     let past : c .before .loop .i ≡ c .before .before .args .span = omega arith in

@@ -1,17 +1,14 @@
-use lib.ListN.{length, take, drop, set, getD, replicate, length-set, length-replicate, getD-replicate}
-use Prim.Native.Nat.{ℕ, suc, _+_, _-_, _≤_, _<_}
-use lib.Seq.{paste, paste-zero, paste-suc}
-use lib.ListN.{length, take, drop, set, getD, replicate, length-set}
-use borrow.Author.Needs.{needs}
-use native.Mathlib.Omega.{arith}
-use native.Mathlib.Numerals.{add-one}
+-- After `done` turns as many zeros stand from `from` on: a turn is `paste-suc`.
+use Prim.Native.Nat.{ℕ, _+_, _-_, _≤_}
 use mathlib.Core.List.{List}
-use mathlib.Core.Path.{_≡_, refl, sym, ap, _∙_}
-use Prim.Native.Nat.{ℕ, _+_, _-_, _≤_, _<_}
+use mathlib.Core.Path.{_≡_, sym, ap, _∙_}
+use native.Mathlib.Numerals.{add-one}
+use native.Mathlib.Omega.{arith}
+use borrow.Author.Needs.{needs}
+use lib.ListN.{set, replicate, length-replicate, getD-replicate}
+use lib.Seq.{paste, paste-zero, paste-suc}
 use Rattle.recv.proofs.waiting.clear.Statement.{statement}
 use Rattle.recv.proofs.waiting.clear.Tie as tie
-use Rattle.recv.proofs.waiting.clear.Reads as reads
-use Rattle.recv.proofs.waiting.clear.Lts as lts
 
 abbrev Inv-loop : tie.InvT-loop
 Inv-loop waiting₀ from count done₀ waiting done = (done ≤ count) × (waiting ≡ paste waiting₀ from (replicate count 0) done)
@@ -19,31 +16,24 @@ Inv-loop waiting₀ from count done₀ waiting done = (done ≤ count) × (waiti
 abbrev μ-loop : tie.MeasureT-loop
 μ-loop waiting₀ from count done₀ waiting done = count - done
 
--- src/waiting.rt:118:5
 loop-holds : tie.Need-loop-holds Inv-loop μ-loop
 loop-holds c = (omega arith, paste-zero (c .args .waiting .now) (c .args .from) (replicate (c .args .count) 0))
 
--- src/waiting.rt:119:17
 add-waiting : tie.Need-add-waiting Inv-loop μ-loop
 add-waiting c = search needs
 
--- src/waiting.rt:119:9
 mul-waiting : tie.Need-mul-waiting Inv-loop μ-loop
 mul-waiting c = search needs
 
--- src/waiting.rt:119:9
 element-write-waiting : tie.Need-element-write-waiting Inv-loop μ-loop
 element-write-waiting c = search needs
 
--- src/waiting.rt:120:9
 add-done : tie.Need-add-done Inv-loop μ-loop
 add-done c = search needs
 
--- src/waiting.rt:118:5
 loop-less : tie.Need-loop-less Inv-loop μ-loop
 loop-less c = search needs
 
--- src/waiting.rt:118:5
 loop-again : tie.Need-loop-again Inv-loop μ-loop
 loop-again c =
     let a = c .before .before .args in
@@ -57,7 +47,6 @@ loop-again c =
           ∙ ap (λ (n : ℕ). paste (a .waiting .now) (a .from) zeros n) (sym (add-one (turn .done))),
     )
 
--- src/waiting.rt:113:1
 returns : tie.Need-returns Inv-loop μ-loop
 returns c =
     let a = c .before .before .args in

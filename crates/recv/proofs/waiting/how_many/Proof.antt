@@ -1,16 +1,14 @@
-use Rattle.recv.specs.Laws.Table.{howMany-take-suc}
-use Rattle.recv.specs.Table.{howMany}
-use lib.ListN.{length, take, getD}
-use borrow.Author.Needs.{needs}
-use native.Mathlib.Omega.{arith}
-use native.Mathlib.Numerals.{add-one}
+-- The count over the places passed; a place adds 1 or nothing.
+use Prim.Native.Nat.{ℕ, _≤_, _-_}
 use mathlib.Core.Path.{_≡_, ap, _∙_}
-use Prim.Native.Nat.{ℕ, _≤_, _-_, _*_, _+_}
+use native.Mathlib.Numerals.{add-one}
+use native.Mathlib.Omega.{arith}
+use borrow.Author.Needs.{needs}
+use lib.ListN.{take}
+use Rattle.recv.specs.Table.{howMany}
+use Rattle.recv.specs.Laws.Table.{howMany-take-suc}
 use Rattle.recv.proofs.waiting.how_many.Statement.{statement}
 use Rattle.recv.proofs.waiting.how_many.Tie as tie
-use Rattle.recv.proofs.waiting.how_many.Reads as reads
-use Rattle.recv.proofs.waiting.how_many.Lts as lts
-use Rattle.recv.proofs.waiting.one_if_waits.Reads as one-if-waits-reads
 
 abbrev Inv-loop : tie.InvT-loop
 Inv-loop waiting span sum₀ i₀ sum i = (i ≤ span) × (sum ≡ howMany (take i waiting)) × (sum ≤ i)
@@ -18,41 +16,32 @@ Inv-loop waiting span sum₀ i₀ sum i = (i ≤ span) × (sum ≡ howMany (take
 abbrev μ-loop : tie.MeasureT-loop
 μ-loop waiting span sum₀ i₀ sum i = span - i
 
--- src/waiting.rt:50:5
 loop-holds : tie.Need-loop-holds Inv-loop μ-loop
 loop-holds c = search needs
 
--- src/waiting.rt:51:29
 mul-one-if-waits : tie.Need-mul-one-if-waits Inv-loop μ-loop
 mul-one-if-waits c = search needs
 
--- src/waiting.rt:51:29
 element-copy-out-one-if-waits : tie.Need-element-copy-out-one-if-waits Inv-loop μ-loop
 element-copy-out-one-if-waits c = search needs
 
--- src/waiting.rt:51:16
 one-if-waits-requires : tie.Need-one-if-waits-requires Inv-loop μ-loop
 one-if-waits-requires c κs = search needs
 
--- src/waiting.rt:51:9
 add-sum : tie.Need-add-sum Inv-loop μ-loop
 add-sum c = search needs
 
--- src/waiting.rt:52:9
 add-i : tie.Need-add-i Inv-loop μ-loop
 add-i c = search needs
 
--- src/waiting.rt:50:5
 loop-less : tie.Need-loop-less Inv-loop μ-loop
 loop-less c = search needs
 
--- src/waiting.rt:50:5
 loop-again : tie.Need-loop-again Inv-loop μ-loop
 loop-again c =
     let step = howMany-take-suc (c .before .before .before .before .args .waiting .now) (c .before .before .before .loop .i) in
     (omega arith, rw (add-one, step) (omega arith), omega arith)
 
--- src/waiting.rt:44:1
 returns : tie.Need-returns Inv-loop μ-loop
 returns c =
     let past : c .before .loop .i ≡ c .before .before .args .span = omega arith in

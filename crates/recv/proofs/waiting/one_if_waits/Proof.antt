@@ -1,18 +1,15 @@
-use Rattle.recv.specs.Laws.Cases.{cond-true}
-use Rattle.recv.specs.Laws.Table.{waits-more}
+-- An entry waits exactly when it is not 0.
 use mathlib.Core.Path.{sym}
 use native.Mathlib.Omega.{arith}
 use borrow.Author.Needs.{needs}
+use Rattle.recv.specs.Laws.Cases.{cond-true}
+use Rattle.recv.specs.Laws.Table.{waits-more}
 use Rattle.recv.proofs.waiting.one_if_waits.Statement.{statement}
 use Rattle.recv.proofs.waiting.one_if_waits.Tie as tie
-use Rattle.recv.proofs.waiting.one_if_waits.Reads as reads
-use Rattle.recv.proofs.waiting.one_if_waits.Lts as lts
 
--- src/waiting.rt:38:9
 returns : tie.Need-returns
 returns c = search needs
 
--- src/waiting.rt:34:1
 returns-2 : tie.Need-returns-2
 returns-2 c = (sym (cond-true 1 0 _ (waits-more _ (c .if1 .left))), omega arith)
 

@@ -1,19 +1,14 @@
-use lib.ListN.{length, take, drop, set, getD, replicate, length-set, length-replicate, getD-replicate}
-use Prim.Native.Nat.{ℕ, suc, _+_, _-_, _≤_, _<_}
-use Rattle.recv.specs.Laws.Table.{run-zero, run-more, run-past}
-use Rattle.recv.specs.Table.{runOf}
-use lib.Seq.{paste, paste-zero, paste-suc}
-use lib.ListN.{length, take, drop, set, getD, replicate, length-set}
-use borrow.Author.Needs.{needs}
-use native.Mathlib.Omega.{arith}
+-- Every place from 1 up to here waits, so the run from 1 is what was passed and the run from here. It ends at the first empty place, or at the table's end.
+use Prim.Native.Nat.{_+_, _-_, _≤_}
+use mathlib.Core.Path.{_≡_}
 use native.Mathlib.Numerals.{add-one}
-use mathlib.Core.List.{List}
-use mathlib.Core.Path.{_≡_, refl, sym, ap, _∙_}
-use Prim.Native.Nat.{ℕ, _+_, _-_, _≤_, _<_}
+use native.Mathlib.Omega.{arith}
+use borrow.Author.Needs.{needs}
+use lib.ListN.{take, drop}
+use Rattle.recv.specs.Table.{runOf}
+use Rattle.recv.specs.Laws.Table.{run-zero, run-more, run-past}
 use Rattle.recv.proofs.waiting.run_past_first.Statement.{statement}
 use Rattle.recv.proofs.waiting.run_past_first.Tie as tie
-use Rattle.recv.proofs.waiting.run_past_first.Reads as reads
-use Rattle.recv.proofs.waiting.run_past_first.Lts as lts
 
 abbrev Inv-loop : tie.InvT-loop
 Inv-loop waiting span place₀ place = (1 ≤ place) × (runOf (drop 1 (take span waiting)) ≡ place - 1 + runOf (drop place (take span waiting)))
@@ -21,37 +16,29 @@ Inv-loop waiting span place₀ place = (1 ≤ place) × (runOf (drop 1 (take spa
 abbrev μ-loop : tie.MeasureT-loop
 μ-loop waiting span place₀ place = span - place
 
--- src/waiting.rt:91:5
 loop-holds : tie.Need-loop-holds Inv-loop μ-loop
 loop-holds c = search needs
 
--- src/waiting.rt:92:12
 mul-if1 : tie.Need-mul-if1 Inv-loop μ-loop
 mul-if1 c = search needs
 
--- src/waiting.rt:92:12
 element-copy-out-if1 : tie.Need-element-copy-out-if1 Inv-loop μ-loop
 element-copy-out-if1 c = search needs
 
--- src/waiting.rt:93:20
 sub-result : tie.Need-sub-result Inv-loop μ-loop
 sub-result c = search needs
 
--- src/waiting.rt:93:13
 returns : tie.Need-returns Inv-loop μ-loop
 returns c =
     let a = c .before .before .before .before .args in
     omega (arith, run-zero (a .waiting .now) (a .span) (c .before .before .before .loop .place) (c .if1 .taken))
 
--- src/waiting.rt:95:9
 add-place : tie.Need-add-place Inv-loop μ-loop
 add-place c = search needs
 
--- src/waiting.rt:91:5
 loop-less : tie.Need-loop-less Inv-loop μ-loop
 loop-less c = search needs
 
--- src/waiting.rt:91:5
 loop-again : tie.Need-loop-again Inv-loop μ-loop
 loop-again c =
     let a = c .before .before .before .before .args in
@@ -59,11 +46,9 @@ loop-again c =
     let more = run-more (a .waiting .now) (a .span) place (omega arith) (c .if1 .left) in
     (omega arith, rw (add-one place) (omega arith))
 
--- src/waiting.rt:97:5
 sub-result-2 : tie.Need-sub-result-2 Inv-loop μ-loop
 sub-result-2 c = search needs
 
--- src/waiting.rt:86:1
 returns-2 : tie.Need-returns-2 Inv-loop μ-loop
 returns-2 c =
     let a = c .before .before .args in

@@ -1,18 +1,15 @@
-use lib.ListN.{length, take, drop, set, getD, replicate, length-set, length-replicate, getD-replicate}
-use Prim.Native.Nat.{ℕ, suc, _+_, _-_, _≤_, _<_}
-use Rattle.recv.specs.Laws.Moves.{paste-down}
-use lib.Seq.{paste, paste-zero, paste-suc}
-use lib.ListN.{length, take, drop, set, getD, replicate, length-set}
-use borrow.Author.Needs.{needs}
-use native.Mathlib.Omega.{arith}
-use native.Mathlib.Numerals.{add-one}
+-- As for bytes that move down: the entry that a turn reads lies past those that were written.
+use Prim.Native.Nat.{ℕ, _+_, _-_, _≤_}
 use mathlib.Core.List.{List}
-use mathlib.Core.Path.{_≡_, refl, sym, ap, _∙_}
-use Prim.Native.Nat.{ℕ, _+_, _-_, _≤_, _<_}
+use mathlib.Core.Path.{_≡_, ap, _∙_}
+use native.Mathlib.Omega.{arith}
+use borrow.Author.Needs.{needs}
+use lib.ListN.{drop, set, getD}
+use lib.Seq.{paste, paste-zero}
+use Rattle.recv.specs.Laws.Moves.{paste-down}
 use Rattle.recv.proofs.waiting.shift_down.Statement.{statement}
 use Rattle.recv.proofs.waiting.shift_down.Tie as tie
 use Rattle.recv.proofs.waiting.shift_down.Reads as reads
-use Rattle.recv.proofs.waiting.shift_down.Lts as lts
 
 abbrev Inv-loop : tie.InvT-loop
 Inv-loop waiting₀ from count done₀ waiting done = (done ≤ count) × (waiting ≡ paste waiting₀ 0 (drop from waiting₀) done)
@@ -20,39 +17,30 @@ Inv-loop waiting₀ from count done₀ waiting done = (done ≤ count) × (waiti
 abbrev μ-loop : tie.MeasureT-loop
 μ-loop waiting₀ from count done₀ waiting done = count - done
 
--- src/waiting.rt:106:5
 loop-holds : tie.Need-loop-holds Inv-loop μ-loop
 loop-holds c = (omega arith, paste-zero (c .args .waiting .now) 0 (drop (c .args .from) (c .args .waiting .now)))
 
--- src/waiting.rt:107:33
 add-waiting : tie.Need-add-waiting Inv-loop μ-loop
 add-waiting c = search needs
 
--- src/waiting.rt:107:25
 mul-waiting : tie.Need-mul-waiting Inv-loop μ-loop
 mul-waiting c = search needs
 
--- src/waiting.rt:107:25
 element-copy-out-waiting : tie.Need-element-copy-out-waiting Inv-loop μ-loop
 element-copy-out-waiting c = search needs
 
--- src/waiting.rt:107:9
 mul-waiting-2 : tie.Need-mul-waiting-2 Inv-loop μ-loop
 mul-waiting-2 c = search needs
 
--- src/waiting.rt:107:9
 element-write-waiting : tie.Need-element-write-waiting Inv-loop μ-loop
 element-write-waiting c = search needs
 
--- src/waiting.rt:108:9
 add-done : tie.Need-add-done Inv-loop μ-loop
 add-done c = search needs
 
--- src/waiting.rt:106:5
 loop-less : tie.Need-loop-less Inv-loop μ-loop
 loop-less c = search needs
 
--- src/waiting.rt:106:5
 loop-again : tie.Need-loop-again Inv-loop μ-loop
 loop-again c =
     let a = c .before .before .before .args in
@@ -60,7 +48,6 @@ loop-again c =
     let from = a .from + turn .done in
     (omega arith, ap (λ (l : List ℕ). set l (turn .done) (getD l from 0)) (turn .inv .1) ∙ paste-down (a .waiting .now) (a .from) (turn .done) (omega arith))
 
--- src/waiting.rt:101:1
 returns : tie.Need-returns Inv-loop μ-loop
 returns c =
     let a = c .before .before .args in
