@@ -3,7 +3,7 @@
 use Prim.Native.Nat.{ℕ, zero, suc, _+_, _-_, _≤_, _<_, min}
 use mathlib.Core.Bool.{Bool, true, cond}
 use mathlib.Core.List.{List, [], _∷_, _++_, append-assoc, append-nil}
-use mathlib.Core.Logic.{⊎-elim}
+use mathlib.Core.Logic.{_⊎_, inl, inr, ⊎-elim}
 use mathlib.Core.Option.{Option, none, some}
 use mathlib.Core.Path.{_≡_, refl, ap, sym, _∙_, subst}
 use native.Mathlib.Nat.{add-zero, not-suc-le-zero, le-of-suc-le-suc}
@@ -319,3 +319,33 @@ fresh-well initial buf least most =
 -- every run from a fresh receiver
 pub delivered : (initial : SeqNum) (buf : List ℕ) → 1 ≤ length buf → length buf ≤ 65536 → (cs : List Call) → Delivered (runOf (freshRun initial buf) cs)
 delivered initial buf least most cs = run-well cs (freshRun initial buf) (fresh-well initial buf least most)
+
+-- ---- where every payload that was stored is the one that was sent under its offset, those are what is delivered
+
+abbrev pub Agree : (ℕ → List ℕ) → List Entry → Type 0
+Agree sent [] = Unit {0}
+Agree sent (e ∷ log) = (e .payload ≡ sent (e .offset)) × Agree sent log
+
+first-sent : (sent : ℕ → List ℕ) (log : List Entry) → Agree sent log → (o : ℕ) → (firstStored log o ≡ none → ⊥) → firstStored log o ≡ some (sent o)
+first-sent sent [] agree o there = absurd (there refl)
+first-sent sent (e ∷ log) agree o there = by (λ h. first-sent sent log (agree .1) o h) (firstStored log o) refl
+  where
+    newest : firstStored log o ≡ none → (e .offset ≡ o) ⊎ (e .offset ≡ o → ⊥) → firstStored (e ∷ log) o ≡ some (sent o)
+    newest q (inl same) =
+        ap (λ (x : Option (List ℕ)). orElse x (cond (eqb (e .offset) o) (some (e .payload)) none)) q
+        ∙ cond-true (some (e .payload)) none (eqb (e .offset) o) (eq-eqb (e .offset) o same)
+        ∙ ap some (agree .0 ∙ ap sent same)
+    newest q (inr other) = absurd (there (first-other e log o other ∙ q))
+
+    by : ((firstStored log o ≡ none → ⊥) → firstStored log o ≡ some (sent o)) → (x : Option (List ℕ)) → firstStored log o ≡ x → firstStored (e ∷ log) o ≡ some (sent o)
+    by earlier none q = newest q (eq-or-ne (e .offset) o)
+    by earlier (some p) q =
+        ap (λ (x : Option (List ℕ)). orElse x (cond (eqb (e .offset) o) (some (e .payload)) none)) q
+        ∙ sym q
+        ∙ earlier (λ z. let no : _≡_ {A = ℕ} 0 1 = cc in omega arith)
+
+pub sent-in-order : (sent : ℕ → List ℕ) (r : Receiver) (log : List Entry) (sofar : List ℕ) → Kept r log sofar → Agree sent log
+    → sofar ++ r .ready ≡ joined (tabled (r .count) (λ k. some (sent (k + 1))))
+sent-in-order sent r log sofar kept agree =
+    kept .in-order
+    ∙ ap joined (tabled-below (r .count) (λ k. firstStored log (k + 1)) (λ k. some (sent (k + 1))) (λ k l. first-sent sent log agree (k + 1) (kept .all-there k l)))
