@@ -1,0 +1,499 @@
+// The receiver: payloads that arrive in any order, handed out in order, over a buffer of bytes that
+// the caller lends to every call (document 01, "Receiving").
+use packet::seq::SeqNum;
+
+mod bytes;
+mod sack;
+mod waiting;
+
+ghost use mathlib.Core.Path.{_≡_};
+ghost use Prim.Native.Nat.{_≤_, _<_, min};
+ghost use lib.ListN.{length, take};
+ghost use Rattle.recv.specs.Calls.{receiverOf, over, stateOf, roomOf, answerOf, afterWrite, writtenOf, writtenRoomOf, takenOf, takenRoomOf, takenOutOf, ackedOf, ackedRoomOf};
+ghost use Rattle.recv.specs.Receiver.{readOf};
+ghost use Rattle.recv.specs.Laws.Steps.{Placeable, placedOf};
+ghost use Rattle.recv.specs.Laws.Reading.{Takes};
+ghost use Rattle.recv.specs.State.{soundOf, createdOf, noReceiverOf, countedOf, toldOf, numberedOf, ackOf, writtenBefore, emptyOf, tableOf};
+ghost use Rattle.recv.specs.Table.{bytesIn, howMany, thereOf, freeOf};
+
+// A receiver by value. `count` payloads are in order. The first `span` entries of `waiting` stand for
+// the offsets past them: 0 where nothing waits, else the payload's length plus 1. The lent buffer
+// holds `ready` bytes in order, then the waiting payloads by offset, end to end, then spare bytes.
+#[repr(C)]
+pub struct ReceiveBuffer {
+    pub initial: SeqNum,
+    pub length: u32,
+    pub count: u32,
+    pub ready: u32,
+    pub span: u32,
+    pub waiting: [u32; 256],
+}
+
+// Why a call is refused.
+pub enum Refusal {
+    // 9: the lent room is too small.
+    RoomTooSmall,
+    // 10: the buffer's length is not 1 to 65,536.
+    LengthOutOfRange,
+    // 15: the offset is above 60,000.
+    PastLimit,
+    // 16: the offset is more than 256 ahead.
+    TooFarAhead,
+    // 17: the payload is longer than the free room.
+    PayloadTooLong,
+    // 18: the lent buffer is not of the length named at the start.
+    OtherLength,
+    // 19: the state is not sound.
+    NotSound,
+}
+
+// What a call that makes a receiver answers.
+pub enum Creation {
+    Made,
+    Refused(Refusal),
+}
+
+// The answer, and beside it the receiver; with a refusal, a state of length 0, which no call takes.
+pub struct Created {
+    pub answer: Creation,
+    pub state: ReceiveBuffer,
+}
+
+// What a write answers.
+pub enum Writing {
+    Stored,
+    AlreadyThere,
+    Refused(Refusal),
+}
+
+// The answer of a write, and beside it the receiver.
+pub struct Written {
+    pub answer: Writing,
+    pub state: ReceiveBuffer,
+}
+
+// How many bytes a read took, or why none; and beside it the receiver.
+pub struct Taken {
+    pub answer: Count,
+    pub state: ReceiveBuffer,
+}
+
+// How many, or why not.
+pub enum Count {
+    Is(usize),
+    Refused(Refusal),
+}
+
+// Whether it holds, or why that is not said.
+pub enum Truth {
+    Is(bool),
+    Refused(Refusal),
+}
+
+// Which number, or why none.
+pub enum Number {
+    Is(SeqNum),
+    Refused(Refusal),
+}
+
+impl ReceiveBuffer {
+    // Whether the state passes the soundness test.
+    fn is_sound(self) -> bool
+        ensures { λ r. ⌜ r ≡ soundOf self ⌝ }
+    {
+        let length = self.length;
+        let count = self.count;
+        let span = self.span;
+        if length < 1 {
+            return false;
+        }
+        if length > 65536 {
+            return false;
+        }
+        if span > 256 {
+            return false;
+        }
+        if count > 60000 {
+            return false;
+        }
+        if count + span > 60000 {
+            return false;
+        }
+        if span == 0 {
+            return self.ready <= length;
+        }
+        let places = span as usize;
+        let last = places - 1;
+        if self.waiting[0] != 0 {
+            return false;
+        }
+        if self.waiting[last] == 0 {
+            return false;
+        }
+        let held = waiting::bytes_in(&self.waiting, places);
+        (self.ready as u64) + held <= length as u64
+    }
+    // A receiver for payloads after `initial`, over a buffer of `length` bytes. Refusals: 10.
+    pub fn new(initial: SeqNum, length: usize) -> Created
+        ensures { λ r. ⌜ r ≡ createdOf initial length ⌝ }
+    {
+        if length < 1 {
+            return refused_new(initial);
+        }
+        if length > 65536 {
+            return refused_new(initial);
+        }
+        let state = ReceiveBuffer {
+            initial,
+            length: length as u32,
+            count: 0,
+            ready: 0,
+            span: 0,
+            waiting: [0u32; 256],
+        };
+        Created {
+            answer: Creation::Made,
+            state,
+        }
+    }
+
+    // Stores `payload` under `number`, and moves every next waiting payload to ready. A number that is
+    // already there changes nothing. Refusals: 19, 18, 15, 16, 17.
+    pub fn write(self, buf: &mut [u8], number: SeqNum, payload: &[u8]) -> Written
+        ensures { λ r. ⌜ (r ≡ writtenOf self (now (buf .entry)) number (now (payload .entry))) × (now (buf .exit) ≡ writtenRoomOf self (now (buf .entry)) number (now (payload .entry))) ⌝ }
+    {
+        let answer = self.writing(buf.len(), number, payload.len());
+        match answer {
+            Writing::Stored => {
+                let state = self.store(buf, number, payload);
+                Written {
+                    answer: Writing::Stored,
+                    state,
+                }
+            }
+            Writing::AlreadyThere => Written {
+                answer: Writing::AlreadyThere,
+                state: self,
+            },
+            Writing::Refused(why) => Written {
+                answer: Writing::Refused(why),
+                state: self,
+            },
+        }
+    }
+
+    // Reads the oldest ready bytes into `out`, as many as there are and fit. Refusals: 19, 18.
+    pub fn read(self, buf: &mut [u8], out: &mut [u8]) -> Taken
+        ensures { λ r. ⌜ (r ≡ takenOf self (now (buf .entry)) (now (out .entry))) × (now (buf .exit) ≡ takenRoomOf self (now (buf .entry)) (now (out .entry))) × (now (out .exit) ≡ takenOutOf self (now (buf .entry)) (now (out .entry))) ⌝ }
+    {
+        if !self.is_sound() {
+            return Taken {
+                answer: Count::Refused(Refusal::NotSound),
+                state: self,
+            };
+        }
+        if buf.len() != self.length as usize {
+            return Taken {
+                answer: Count::Refused(Refusal::OtherLength),
+                state: self,
+            };
+        }
+        let n = smaller(out.len(), self.ready as usize);
+        let state = self.take(buf, out, n);
+        Taken {
+            answer: Count::Is(n),
+            state,
+        }
+    }
+
+    // How many bytes more the buffer can hold. Refusals: 19.
+    pub fn available(self) -> Count
+        ensures { λ r. ⌜ r ≡ countedOf self (freeOf (self .length) (self .ready) (tableOf self)) ⌝ }
+    {
+        if self.is_sound() {
+            let held = waiting::bytes_in(&self.waiting, self.span as usize);
+            Count::Is(((self.length - self.ready) as u64 - held) as usize)
+        } else {
+            Count::Refused(Refusal::NotSound)
+        }
+    }
+
+    // Whether no byte is ready and nothing waits. Refusals: 19.
+    pub fn is_empty(self) -> Truth
+        ensures { λ r. ⌜ r ≡ toldOf self (emptyOf self) ⌝ }
+    {
+        if self.is_sound() {
+            let held = waiting::how_many(&self.waiting, self.span as usize);
+            Truth::Is(self.ready == 0 && held == 0)
+        } else {
+            Truth::Refused(Refusal::NotSound)
+        }
+    }
+
+    // The number before the first payload's. Refusals: 19.
+    pub fn init_seq_num(self) -> Number
+        ensures { λ r. ⌜ r ≡ numberedOf self (self .initial) ⌝ }
+    {
+        if self.is_sound() {
+            let initial = self.initial;
+            Number::Is(initial)
+        } else {
+            Number::Refused(Refusal::NotSound)
+        }
+    }
+
+    // Whether the payload of `number` is already there. Refusals: 19.
+    pub fn was_written(self, number: SeqNum) -> Truth
+        ensures { λ r. ⌜ r ≡ toldOf self (writtenBefore self number) ⌝ }
+    {
+        if self.is_sound() {
+            let initial = self.initial;
+            let offset = number.offset_from(initial);
+            Truth::Is(self.is_there(offset.0 as u32))
+        } else {
+            Truth::Refused(Refusal::NotSound)
+        }
+    }
+
+    // The last number of the payloads in order. Refusals: 19.
+    pub fn ack_num(self) -> Number
+        ensures { λ r. ⌜ r ≡ numberedOf self (ackOf self) ⌝ }
+    {
+        if self.is_sound() {
+            let initial = self.initial;
+            Number::Is(initial.plus((self.count % 65536) as u16))
+        } else {
+            Number::Refused(Refusal::NotSound)
+        }
+    }
+
+    // Writes the selective ACK into `room` and answers its length: 0, which means none, with nothing
+    // waiting. Refusals: 19, 9.
+    pub fn selective_ack(self, room: &mut [u8]) -> Count
+        ensures { λ r. ⌜ (r ≡ ackedOf self (length (now (room .entry)))) × (now (room .exit) ≡ ackedRoomOf self (now (room .entry))) ⌝ }
+    {
+        if !self.is_sound() {
+            return Count::Refused(Refusal::NotSound);
+        }
+        let span = self.span as usize;
+        let n = sack::length_for(span);
+        if n > room.len() {
+            return Count::Refused(Refusal::RoomTooSmall);
+        }
+        sack::fill(&self.waiting, span, room, n);
+        Count::Is(n)
+    }
+
+    // How many payloads are in order: document 01's c. Refusals: 19.
+    pub fn count(self) -> Count
+        ensures { λ r. ⌜ r ≡ countedOf self (self .count) ⌝ }
+    {
+        if self.is_sound() {
+            Count::Is(self.count as usize)
+        } else {
+            Count::Refused(Refusal::NotSound)
+        }
+    }
+
+    // How many bytes are ready. Refusals: 19.
+    pub fn ready(self) -> Count
+        ensures { λ r. ⌜ r ≡ countedOf self (self .ready) ⌝ }
+    {
+        if self.is_sound() {
+            Count::Is(self.ready as usize)
+        } else {
+            Count::Refused(Refusal::NotSound)
+        }
+    }
+
+    // How many payloads wait. Refusals: 19.
+    pub fn waiting(self) -> Count
+        ensures { λ r. ⌜ r ≡ countedOf self (howMany (tableOf self)) ⌝ }
+    {
+        if self.is_sound() {
+            Count::Is(waiting::how_many(&self.waiting, self.span as usize))
+        } else {
+            Count::Refused(Refusal::NotSound)
+        }
+    }
+
+    // How many bytes wait. Refusals: 19.
+    pub fn waiting_bytes(self) -> Count
+        ensures { λ r. ⌜ r ≡ countedOf self (bytesIn (tableOf self)) ⌝ }
+    {
+        if self.is_sound() {
+            Count::Is(waiting::bytes_in(&self.waiting, self.span as usize) as usize)
+        } else {
+            Count::Refused(Refusal::NotSound)
+        }
+    }
+
+    // Takes the oldest `n` ready bytes out, and moves what stays down. Nothing moves where n is 0.
+    fn take(self, buf: &mut [u8], out: &mut [u8], n: usize) -> ReceiveBuffer
+        requires { ⌜ Takes self (now buf) (now out) n ⌝ }
+        ensures { λ r. ⌜ (r ≡ stateOf (self .waiting) (readOf (receiverOf self (now (buf .entry))) n)) × (now (buf .exit) ≡ roomOf (now (buf .entry)) (readOf (receiverOf self (now (buf .entry))) n)) × (now (out .exit) ≡ over (take n (receiverOf self (now (buf .entry)) .ready)) (now (out .entry))) ⌝ }
+    {
+        if n == 0 {
+            return self;
+        }
+        let held = waiting::bytes_in(&self.waiting, self.span as usize) as usize;
+        let left = self.ready - n as u32;
+        bytes::copy(out, 0, buf, n);
+        bytes::move_down(buf, n, left as usize + held);
+        let mut state = self;
+        state.ready = left;
+        state
+    }
+
+    // What a write of `n` bytes under `number` answers, over a buffer of `size` bytes.
+    fn writing(self, size: usize, number: SeqNum, n: usize) -> Writing
+        ensures { λ r. ⌜ r ≡ answerOf self size number n ⌝ }
+    {
+        if !self.is_sound() {
+            return Writing::Refused(Refusal::NotSound);
+        }
+        if size != self.length as usize {
+            return Writing::Refused(Refusal::OtherLength);
+        }
+        let initial = self.initial;
+        let distance = number.offset_from(initial);
+        let offset = distance.0 as u32;
+        if self.is_there(offset) {
+            return Writing::AlreadyThere;
+        }
+        if offset > 60000 {
+            return Writing::Refused(Refusal::PastLimit);
+        }
+        if offset > self.count + 256 {
+            return Writing::Refused(Refusal::TooFarAhead);
+        }
+        let held = waiting::bytes_in(&self.waiting, self.span as usize) as usize;
+        if n > (self.length - self.ready) as usize - held {
+            return Writing::Refused(Refusal::PayloadTooLong);
+        }
+        Writing::Stored
+    }
+
+    // Puts `payload` into the buffer at the place of `number`, and answers the state after that.
+    fn store(self, buf: &mut [u8], number: SeqNum, payload: &[u8]) -> ReceiveBuffer
+        requires { ⌜ answerOf self (length (now buf)) number (length (now payload)) ≡ Writing.Stored ⌝ }
+        ensures { λ r. ⌜ (r ≡ stateOf (self .waiting) (afterWrite self (now (buf .entry)) number (now (payload .entry)))) × (now (buf .exit) ≡ roomOf (now (buf .entry)) (afterWrite self (now (buf .entry)) number (now (payload .entry)))) ⌝ }
+    {
+        let initial = self.initial;
+        let offset = number.offset_from(initial);
+        let place = (offset.0 as u32 - self.count - 1) as usize;
+        let span = self.span as usize;
+        let held = waiting::bytes_in(&self.waiting, span) as usize;
+        let before = waiting::bytes_before(&self.waiting, span, place) as usize;
+        bytes::insert(buf, self.ready as usize + before, held - before, payload);
+        self.placed(place, payload.len() as u32)
+    }
+
+    // The state with a payload of `n` bytes stored at `place`, and every next waiting one ready.
+    fn placed(self, place: usize, n: u32) -> ReceiveBuffer
+        requires { ⌜ Placeable self place n ⌝ }
+        ensures { λ r. ⌜ r ≡ placedOf self place n ⌝ }
+    {
+        if place != 0 {
+            return self.kept(place, n);
+        }
+        if self.span == 0 {
+            let mut state = self;
+            state.count = self.count + 1;
+            state.ready = self.ready + n;
+            return state;
+        }
+        self.moved(n)
+    }
+
+    // The same where place 0 is filled and others wait: they move to ready as far as no gap comes.
+    fn moved(self, n: u32) -> ReceiveBuffer
+        requires { ⌜ (Placeable self 0 n) × (0 < self .span) ⌝ }
+        ensures { λ r. ⌜ r ≡ placedOf self 0 n ⌝ }
+    {
+        let span = self.span as usize;
+        let run = 1 + waiting::run_past_first(&self.waiting, span);
+        let bytes = waiting::bytes_in(&self.waiting, run) as u32;
+        let initial = self.initial;
+        let mut waiting = self.waiting;
+        waiting::shift_down(&mut waiting, run, span - run);
+        ReceiveBuffer {
+            initial,
+            length: self.length,
+            count: self.count + run as u32,
+            ready: self.ready + n + bytes,
+            span: (span - run) as u32,
+            waiting,
+        }
+    }
+
+    // The same past a gap: the payload waits.
+    fn kept(self, place: usize, n: u32) -> ReceiveBuffer
+        requires { ⌜ (Placeable self place n) × (0 < place) ⌝ }
+        ensures { λ r. ⌜ r ≡ placedOf self place n ⌝ }
+    {
+        let span = self.span as usize;
+        let initial = self.initial;
+        let mut waiting = self.waiting;
+        if place < span {
+            waiting[place] = n + 1;
+            return ReceiveBuffer {
+                initial,
+                length: self.length,
+                count: self.count,
+                ready: self.ready,
+                span: self.span,
+                waiting,
+            };
+        }
+        waiting::clear(&mut waiting, span, place - span);
+        waiting[place] = n + 1;
+        ReceiveBuffer {
+            initial,
+            length: self.length,
+            count: self.count,
+            ready: self.ready,
+            span: (place + 1) as u32,
+            waiting,
+        }
+    }
+
+    // Whether `offset` is at most the count, or waits.
+    fn is_there(self, offset: u32) -> bool
+        requires { ⌜ self .span ≤ 256 ⌝ }
+        ensures { λ r. ⌜ r ≡ thereOf (self .count) (tableOf self) offset ⌝ }
+    {
+        if offset <= self.count {
+            return true;
+        }
+        waiting::waits_at(&self.waiting, self.span as usize, self.count, offset)
+    }
+}
+
+// The smaller of two numbers.
+fn smaller(a: usize, b: usize) -> usize
+    ensures { λ r. ⌜ r ≡ min a b ⌝ }
+{
+    if a < b {
+        return a;
+    }
+    b
+}
+
+// The answer 10.
+fn refused_new(initial: SeqNum) -> Created
+    ensures { λ r. ⌜ r ≡ noReceiverOf initial ⌝ }
+{
+    let state = ReceiveBuffer {
+        initial,
+        length: 0,
+        count: 0,
+        ready: 0,
+        span: 0,
+        waiting: [0u32; 256],
+    };
+    Created {
+        answer: Creation::Refused(Refusal::LengthOutOfRange),
+        state,
+    }
+}

@@ -1,0 +1,51 @@
+-- The place stays within the bytes.
+use Prim.Native.Nat.{_-_, _≤_}
+use borrow.Author.Needs.{needs}
+use lib.ListN.{length}
+use Rattle.recv_run.proofs.compare_all.Statement.{statement}
+use Rattle.recv_run.proofs.compare_all.Tie as tie
+
+abbrev Inv-loop : tie.InvT-loop
+Inv-loop bytes n here₀ i₀ here i = i ≤ length bytes
+
+abbrev μ-loop : tie.MeasureT-loop
+μ-loop bytes n here₀ i₀ here i = length bytes - i
+
+loop-holds : tie.Need-loop-holds Inv-loop μ-loop
+loop-holds c = search needs
+
+returns : tie.Need-returns Inv-loop μ-loop
+returns c = search needs
+
+shared-slice-read-compare : tie.Need-shared-slice-read-compare Inv-loop μ-loop
+shared-slice-read-compare c = search needs
+
+compare-requires : tie.Need-compare-requires Inv-loop μ-loop
+compare-requires c κs = search needs
+
+add-i : tie.Need-add-i Inv-loop μ-loop
+add-i c = search needs
+
+loop-less : tie.Need-loop-less Inv-loop μ-loop
+loop-less c = search needs
+
+loop-again : tie.Need-loop-again Inv-loop μ-loop
+loop-again c = search needs
+
+returns-2 : tie.Need-returns-2 Inv-loop μ-loop
+returns-2 c = search needs
+
+pub compare-all-spec : {M : Type 1} → statement M
+compare-all-spec =
+    tie.close
+    (tie.spec
+    Inv-loop
+    μ-loop
+    loop-holds
+    returns
+    shared-slice-read-compare
+    compare-requires
+    add-i
+    loop-less
+    loop-again
+    returns-2)
