@@ -14,18 +14,20 @@ use Rattle.packet.specs.declared.extension.ChainRead.the-variants.{Past,
 use Rattle.packet.specs.declared.extension.Step.{Step}
 use Rattle.packet.specs.declared.extension.Step.the-variants.{Ends, RunsPast, Found}
 
--- Where the current extension is 0 the chain ends. Else two bytes stand at the place: the next extension and the length, and that many bytes behind them.
--- A head or a body that runs past the end of the datagram is a fault.
+-- An extension at a place: the next extension's number, the length, then that many bytes.
+abbrev pub extensionAt : List ℕ → Cursor → Extension
+extensionAt d c = record { number = c .number; body = record { at = c .at + 2; len = getD d (c .at + 1) 0 } }
+
+abbrev pub nextAt : List ℕ → Cursor → Cursor
+nextAt d c = record { number = getD d (c .at) 0; at = c .at + 2 + getD d (c .at + 1) 0 }
+
+-- Where the current extension is 0 the chain ends. A head or a body that runs past the end of the datagram is a fault.
 abbrev pub stepOf : List ℕ → Cursor → Step
 stepOf d c =
     cond (eqb (c .number) 0)
     Ends
     (cond (leb (c .at + 2) (length d))
-    (cond (leb (c .at + 2 + getD d (c .at + 1) 0) (length d))
-    (Found
-    (record { number = c .number; body = record { at = c .at + 2; len = getD d (c .at + 1) 0 } })
-    (record { number = getD d (c .at) 0; at = c .at + 2 + getD d (c .at + 1) 0 }))
-    RunsPast)
+    (cond (leb (c .at + 2 + getD d (c .at + 1) 0) (length d)) (Found (extensionAt d c) (nextAt d c)) RunsPast)
     RunsPast)
 
 -- A chain from a place on: it runs past the end, or it is a list of extensions, each with its number and its body's place and length, and the

@@ -1,7 +1,12 @@
 -- Laws about the definitions beside this file, a file for each topic.
+pub mod Seq
 pub mod Number
 pub mod Layout
 pub mod Chain
 pub mod Decode
 pub mod Encode
 pub mod OneToOne
+pub mod RoundTrip
+pub mod ReadWritten
+pub mod WriteRead
+pub mod Sack

@@ -1,6 +1,6 @@
 // Sequence numbers and offsets, two kinds that cannot be mixed.
 ghost use mathlib.Core.Path.{_≡_};
-ghost use Rattle.packet.specs.Seq.{plusOf, offsetOf, containsOf, nextOf};
+ghost use Rattle.packet.specs.Seq.{plusOf, offsetOf, rangeOf, containsOf, nextOf};
 
 // A number as it stands on the wire. Numbers run round modulo 65,536.
 pub struct SeqNum(pub u16);
@@ -39,7 +39,7 @@ pub enum Step {
 
 impl CircularRangeInclusive {
     pub fn new(start: SeqNum, end: SeqNum) -> Self
-        ensures { λ r. ⌜ (r .start ≡ start) × (r .end ≡ end) ⌝ }
+        ensures { λ r. ⌜ r ≡ rangeOf start end ⌝ }
     {
         Self {
             start,

@@ -7,7 +7,7 @@ ghost use lib.Seq.{paste};
 ghost use Rattle.recv.specs.Laws.Steps.{insertedOf};
 
 // Copies the first `count` bytes of `src` into `dst` from `at` on.
-pub fn copy(dst: &mut [u8], at: usize, src: &[u8], count: usize)
+pub(crate) fn copy(dst: &mut [u8], at: usize, src: &[u8], count: usize)
     requires { ⌜ (at + count ≤ length (now dst)) × (count ≤ length (now src)) ⌝ }
     ensures { λ _. ⌜ now (dst .exit) ≡ paste (now (dst .entry)) at (now (src .entry)) count ⌝ }
 {
@@ -19,7 +19,7 @@ pub fn copy(dst: &mut [u8], at: usize, src: &[u8], count: usize)
 }
 
 // Moves the `count` bytes from `from` on down to the front.
-pub fn move_down(buf: &mut [u8], from: usize, count: usize)
+pub(crate) fn move_down(buf: &mut [u8], from: usize, count: usize)
     requires { ⌜ from + count ≤ length (now buf) ⌝ }
     ensures { λ _. ⌜ now (buf .exit) ≡ paste (now (buf .entry)) 0 (drop from (now (buf .entry))) count ⌝ }
 {
@@ -31,7 +31,7 @@ pub fn move_down(buf: &mut [u8], from: usize, count: usize)
 }
 
 // Moves the `count` bytes from `from` on up by `by` places, the last first.
-pub fn move_up(buf: &mut [u8], from: usize, count: usize, by: usize)
+pub(crate) fn move_up(buf: &mut [u8], from: usize, count: usize, by: usize)
     requires { ⌜ from + by + count ≤ length (now buf) ⌝ }
     ensures { λ _. ⌜ now (buf .exit) ≡ paste (now (buf .entry)) (from + by) (drop from (now (buf .entry))) count ⌝ }
 {
@@ -43,7 +43,7 @@ pub fn move_up(buf: &mut [u8], from: usize, count: usize, by: usize)
 }
 
 // Puts `payload` in at `at`, before the `count` bytes that stand there, which move up.
-pub fn insert(buf: &mut [u8], at: usize, count: usize, payload: &[u8])
+pub(crate) fn insert(buf: &mut [u8], at: usize, count: usize, payload: &[u8])
     requires { ⌜ at + length (now payload) + count ≤ length (now buf) ⌝ }
     ensures { λ _. ⌜ now (buf .exit) ≡ insertedOf (now (buf .entry)) at count (now (payload .entry)) ⌝ }
 {

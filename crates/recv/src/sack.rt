@@ -7,7 +7,7 @@ ghost use lib.Seq.{paste};
 ghost use Rattle.recv.specs.Table.{waits, sackByteOf, sackLengthOf, sackOf};
 
 // How many bytes the selective ACK of a table of `span` places has: its bits padded to 32.
-pub fn length_for(span: usize) -> usize
+pub(crate) fn length_for(span: usize) -> usize
     requires { ⌜ span ≤ 256 ⌝ }
     ensures { λ r. ⌜ r ≡ (span - 1 + 31) / 32 * 4 ⌝ }
 {
@@ -43,7 +43,7 @@ fn byte(waiting: &[u32; 256], span: usize, k: usize) -> u8
 }
 
 // Writes the `count` bytes of the selective ACK into the front of `room`.
-pub fn fill(waiting: &[u32; 256], span: usize, room: &mut [u8], count: usize)
+pub(crate) fn fill(waiting: &[u32; 256], span: usize, room: &mut [u8], count: usize)
     requires { ⌜ (span ≤ 256) × (count ≤ length (now room)) × (count ≡ sackLengthOf (take span (now waiting))) × (count ≤ 256) ⌝ }
     ensures { λ _. ⌜ now (room .exit) ≡ paste (now (room .entry)) 0 (sackOf (take span (now (waiting .entry)))) count ⌝ }
 {

@@ -18,7 +18,7 @@ fn length_of(entry: u32) -> u64
 }
 
 // How many bytes the payloads at the first `span` places hold.
-pub fn bytes_in(waiting: &[u32; 256], span: usize) -> u64
+pub(crate) fn bytes_in(waiting: &[u32; 256], span: usize) -> u64
     requires { ⌜ span ≤ 256 ⌝ }
     ensures { λ r. ⌜ (r ≡ bytesIn (take span (now (waiting .entry)))) × (r < 2 ^ 40) ⌝ }
 {
@@ -42,7 +42,7 @@ fn one_if_waits(entry: u32) -> usize
 }
 
 // How many payloads wait at the first `span` places.
-pub fn how_many(waiting: &[u32; 256], span: usize) -> usize
+pub(crate) fn how_many(waiting: &[u32; 256], span: usize) -> usize
     requires { ⌜ span ≤ 256 ⌝ }
     ensures { λ r. ⌜ (r ≡ howMany (take span (now (waiting .entry)))) × (r ≤ 256) ⌝ }
 {
@@ -56,7 +56,7 @@ pub fn how_many(waiting: &[u32; 256], span: usize) -> usize
 }
 
 // Whether `offset` waits behind `count` payloads in order.
-pub fn waits_at(waiting: &[u32; 256], span: usize, count: u32, offset: u32) -> bool
+pub(crate) fn waits_at(waiting: &[u32; 256], span: usize, count: u32, offset: u32) -> bool
     requires { ⌜ span ≤ 256 ⌝ }
     ensures { λ r. ⌜ r ≡ waitsAt count (take span (now (waiting .entry))) offset ⌝ }
 {
@@ -72,7 +72,7 @@ pub fn waits_at(waiting: &[u32; 256], span: usize, count: u32, offset: u32) -> b
 }
 
 // How many bytes the payloads at the first `place` of the first `span` places hold.
-pub fn bytes_before(waiting: &[u32; 256], span: usize, place: usize) -> u64
+pub(crate) fn bytes_before(waiting: &[u32; 256], span: usize, place: usize) -> u64
     requires { ⌜ span ≤ 256 ⌝ }
     ensures { λ r. ⌜ r ≡ bytesIn (take place (take span (now (waiting .entry)))) ⌝ }
 {
@@ -83,7 +83,7 @@ pub fn bytes_before(waiting: &[u32; 256], span: usize, place: usize) -> u64
 }
 
 // How many of the first `span` places wait, one behind the other, from place 1 on.
-pub fn run_past_first(waiting: &[u32; 256], span: usize) -> usize
+pub(crate) fn run_past_first(waiting: &[u32; 256], span: usize) -> usize
     requires { ⌜ span ≤ 256 ⌝ }
     ensures { λ r. ⌜ r ≡ runOf (drop 1 (take span (now (waiting .entry)))) ⌝ }
 {
@@ -98,7 +98,7 @@ pub fn run_past_first(waiting: &[u32; 256], span: usize) -> usize
 }
 
 // Moves the `count` entries from `from` on down to the front.
-pub fn shift_down(waiting: &mut [u32; 256], from: usize, count: usize)
+pub(crate) fn shift_down(waiting: &mut [u32; 256], from: usize, count: usize)
     requires { ⌜ (from + count ≤ 256) × (length (now waiting) ≡ 256) ⌝ }
     ensures { λ _. ⌜ now (waiting .exit) ≡ paste (now (waiting .entry)) 0 (drop from (now (waiting .entry))) count ⌝ }
 {
@@ -110,7 +110,7 @@ pub fn shift_down(waiting: &mut [u32; 256], from: usize, count: usize)
 }
 
 // Sets `count` entries from `from` on to 0.
-pub fn clear(waiting: &mut [u32; 256], from: usize, count: usize)
+pub(crate) fn clear(waiting: &mut [u32; 256], from: usize, count: usize)
     requires { ⌜ (from + count ≤ 256) × (length (now waiting) ≡ 256) ⌝ }
     ensures { λ _. ⌜ now (waiting .exit) ≡ paste (now (waiting .entry)) from (replicate count 0) count ⌝ }
 {

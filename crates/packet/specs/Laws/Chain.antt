@@ -6,8 +6,8 @@ use mathlib.Core.List.{List, []}
 use mathlib.Core.Path.{_≡_, _∙_, refl, ap, sym}
 use lib.ListN.{length, getD}
 use lib.Dec.{leb, eqb}
-use borrow.Author.Tests.{leb-true}
-use Rattle.packet.specs.Chain.{stepOf, Chain, past, whole, before, goOn, chainBy, chainFrom, endOf, readOf}
+use borrow.Author.Tests.{leb-true, eqb-true}
+use Rattle.packet.specs.Chain.{stepOf, extensionAt, nextAt, Chain, past, whole, before, goOn, chainBy, chainFrom, endOf, readOf}
 use Rattle.packet.specs.declared.extension.Cursor.{Cursor}
 use Rattle.packet.specs.declared.extension.Extension.{Extension}
 use Rattle.packet.specs.declared.extension.End.the-variants.{PastEnd, At}
@@ -15,33 +15,39 @@ use Rattle.packet.specs.declared.extension.ChainRead.the-variants.{Past,
 use Rattle.packet.specs.declared.extension.Step.{Step}
 use Rattle.packet.specs.declared.extension.Step.the-variants.{Ends, RunsPast, Found}
 
-never : {A : Type 0} (e : Extension) (c : Cursor) (s : Step) → s ≡ Ends → s ≡ Found e c → A
-never e c s p q = let z : _≡_ {A = ℕ} 0 1 = cc in absurd (omega arith)
+-- What a step tells of the bytes: by the three tests, one case each.
+module _ (d : List ℕ) (c : Cursor) where
+  abbrev byTests : Bool → Bool → Bool → Step
+  byTests b₁ b₂ b₃ = cond b₁ Ends (cond b₂ (cond b₃ (Found (extensionAt d c) (nextAt d c)) RunsPast) RunsPast)
 
-never-past : {A : Type 0} (e : Extension) (c : Cursor) (s : Step) → s ≡ RunsPast → s ≡ Found e c → A
-never-past e c s p q = let z : _≡_ {A = ℕ} 0 1 = cc in absurd (omega arith)
+  pub step-ends : stepOf d c ≡ Ends → c .number ≡ 0
+  step-ends = go (eqb (c .number) 0) (leb (c .at + 2) (length d)) (leb (c .at + 2 + getD d (c .at + 1) 0) (length d)) refl
+    where
+      go : (b₁ b₂ b₃ : Bool) → eqb (c .number) 0 ≡ b₁ → byTests b₁ b₂ b₃ ≡ Ends → c .number ≡ 0
+      go true b₂ b₃ t f = eqb-true _ _ t
+      go false false b₃ t f = let z : _≡_ {A = ℕ} 0 1 = cc in absurd (omega arith)
+      go false true false t f = let z : _≡_ {A = ℕ} 0 1 = cc in absurd (omega arith)
+      go false true true t f = let z : _≡_ {A = ℕ} 0 1 = cc in absurd (omega arith)
 
-pub found-forward : (d : List ℕ) (c : Cursor) (e : Extension) (next : Cursor) → stepOf d c ≡ Found e next → (c .at + 2 ≤ next .at) × (next .at ≤ length d)
-found-forward d c e next found = go (eqb (c .number) 0) (leb (c .at + 2) (length d)) (leb (c .at + 2 + getD d (c .at + 1) 0) (length d)) refl found
-  where
-    X : Extension
-    X = record { number = c .number; body = record { at = c .at + 2; len = getD d (c .at + 1) 0 } }
+  pub step-found :
+      (e : Extension) (next : Cursor) → stepOf d c ≡ Found e next
+      → (e ≡ extensionAt d c) × (next ≡ nextAt d c) × (c .at + 2 + getD d (c .at + 1) 0 ≤ length d)
+  step-found e next = go (eqb (c .number) 0) (leb (c .at + 2) (length d)) (leb (c .at + 2 + getD d (c .at + 1) 0) (length d)) refl
+    where
+      go :
+          (b₁ b₂ b₃ : Bool) → leb (c .at + 2 + getD d (c .at + 1) 0) (length d) ≡ b₃ → byTests b₁ b₂ b₃ ≡ Found e next
+          → (e ≡ extensionAt d c) × (next ≡ nextAt d c) × (c .at + 2 + getD d (c .at + 1) 0 ≤ length d)
+      go true b₂ b₃ t f = let z : _≡_ {A = ℕ} 0 1 = cc in absurd (omega arith)
+      go false false b₃ t f = let z : _≡_ {A = ℕ} 0 1 = cc in absurd (omega arith)
+      go false true false t f = let z : _≡_ {A = ℕ} 0 1 = cc in absurd (omega arith)
+      go false true true t f = (cc, cc, leb-true _ _ t)
 
-    Y : Cursor
-    Y = record { number = getD d (c .at) 0; at = c .at + 2 + getD d (c .at + 1) 0 }
-
-    go :
-        (b₁ b₂ b₃ : Bool) → leb (c .at + 2 + getD d (c .at + 1) 0) (length d) ≡ b₃
-        → cond b₁ Ends (cond b₂ (cond b₃ (Found X Y) RunsPast) RunsPast) ≡ Found e next
-        → (c .at + 2 ≤ next .at) × (next .at ≤ length d)
-    go true b₂ b₃ t f = never e next Ends refl f
-    go false false b₃ t f = never-past e next RunsPast refl f
-    go false true false t f = never-past e next RunsPast refl f
-    go false true true t f =
-        let same : Y ≡ next = cc in
-        let at : Y .at ≡ next .at = ap (λ (k : Cursor). k .at) same in
-        let fits : c .at + 2 + getD d (c .at + 1) 0 ≤ length d = leb-true _ _ t in
-        (omega arith, omega arith)
+  -- A step goes forward by two bytes or more, within the datagram.
+  pub found-forward : (e : Extension) (next : Cursor) → stepOf d c ≡ Found e next → (c .at + 2 ≤ next .at) × (next .at ≤ length d)
+  found-forward e next found =
+      let told = step-found e next found in
+      let at : next .at ≡ c .at + 2 + getD d (c .at + 1) 0 = ap (λ (k : Cursor). k .at) (told .1) in
+      (omega arith, omega (arith, told .2))
 
 -- More steps than there are bytes left make no difference.
 enough : (d : List ℕ) (n m : ℕ) (c : Cursor) → length d - c .at < n → length d - c .at < m → chainBy n d c ≡ chainBy m d c

@@ -12,7 +12,7 @@ use lib.Dec.{leb, ltb, eqb}
 use lib.ListN.{length, take, drop, getD, List·getD-eq-default}
 use lib.Pow.{pow-mono}
 use lib.Seq.{paste, take-all, length-take-le}
-use Rattle.packet.specs.Sack.{bitOf, bitCountOf}
+use Rattle.packet.specs.Sack.{bitOf}
 use Rattle.recv.specs.Table.{waits, binaryOf, tabled, sackBitOf, sackByteOf, sackLengthOf, sackOf, waitsAt}
 use Rattle.recv.specs.State.{tableOf, soundOf}
 use Rattle.recv.specs.Calls.{ackedOf, ackedRoomOf}
@@ -188,7 +188,7 @@ bit-means c t i =
 pub sack-fours : (t : List ℕ) → length (sackOf t) % 4 ≡ 0
 sack-fours t = rw (length-sack t) (omega arith)
 
-pub sack-reaches : (t : List ℕ) → length t - 1 ≤ bitCountOf (sackOf t)
+pub sack-reaches : (t : List ℕ) → length t - 1 ≤ 8 * length (sackOf t)
 sack-reaches t = rw (length-sack t) (omega arith)
 
 pub sack-least : (t : List ℕ) (n : ℕ) → n % 4 ≡ 0 → length t - 1 ≤ 8 * n → length (sackOf t) ≤ n

@@ -1,0 +1,3 @@
+-- Demand 3: what arrives is what was sent. Run has the statement, Laws the proof.
+pub mod Run
+pub mod Laws

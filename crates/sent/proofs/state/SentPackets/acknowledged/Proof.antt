@@ -1,0 +1,113 @@
+-- `acknowledged` meets its contract: what was heard is what document 01 names, by a sample that is taken once. Where nothing was newly acknowledged, no loss
+-- is new and no place is free, so only the clock is set.
+use mathlib.Core.Path.{_≡_, refl, sym, ap, ap₂, _∙_}
+use mathlib.Core.Bool.{Bool, true, false}
+use mathlib.Core.List.{List, _++_}
+use Prim.Native.Nat.{ℕ, _≤_, _<_, _-_, _+_}
+use native.Mathlib.Omega.{arith}
+use denote.Ref.{now}
+use lib.ListN.{length, length-map, take, drop}
+use Rattle.congestion.specs.declared.numbers.Numbers.{Numbers}
+use Rattle.congestion.specs.declared.delays.Delays.{Delays}
+use Rattle.congestion.specs.Numbers.{acceptedOf}
+use Rattle.sent.specs.declared.state.Packet.{Packet}
+use Rattle.sent.specs.declared.state.SentPackets.{SentPackets}
+use Rattle.sent.specs.declared.ack.Heard.{Heard}
+use Rattle.sent.specs.Ack.{fromUnacked}
+use Rattle.sent.specs.Hear.{lossHeardOf}
+use Rattle.sent.specs.State.{stateSoundOf}
+use Rattle.sent.specs.Laws.Sound.{state-counts}
+use Rattle.sent.specs.Laws.Transmit.{stateWith}
+use Rattle.sent.specs.Laws.AckState.{heardOn, quiet, loud}
+use borrow.Author.Needs.{needs}
+use Rattle.sent.proofs.state.SentPackets.acknowledged.Statement.{statement}
+use Rattle.sent.proofs.state.SentPackets.acknowledged.Tie as tie
+use Rattle.sent.proofs.state.SentPackets.acknowledged.Reads as reads
+use Rattle.sent.proofs.state.SentPackets.acknowledged.Lts as lts
+use Rattle.congestion.proofs.delays.Delays.base.Reads as base-reads
+use Rattle.congestion.proofs.delays.Delays.take.Reads as take-reads
+use Rattle.congestion.proofs.numbers.Numbers.accepted.Reads as accepted-reads
+use Rattle.sent.proofs.ack.acked_run.Reads as acked-run-reads
+use Rattle.sent.proofs.ack.hear.Reads as hear-reads
+use Rattle.sent.proofs.ack.lose.Reads as lose-reads
+use Rattle.sent.proofs.ack.moved_down.Reads as moved-down-reads
+
+full : (c : tie.Start) → length (c .args .self .packets) ≡ 512
+full c = sym (length-map (c .args .self .packets) _) ∙ c .good .0 .1 .1 .1 .1 .1 .1 .1 .0 .1 .0 .1
+
+counts : (c : tie.Start) → (c .args .self .live ≤ 512) × (c .args .self .live ≤ c .args .self .count) × (c .args .self .count ≤ 60000) × (length (take (c .args .self .live) (c .args .self .packets)) ≡ c .args .self .live)
+counts c = state-counts (c .args .self) (c .pre .0) (full c)
+
+left-in : (s : SentPackets) (live : ℕ) (delays : Delays) (packets : List Packet) (n n′ : Numbers) → n ≡ n′
+    → _≡_ {A = SentPackets} (record { initial = s .initial; count = s .count; live = live; numbers = n; delays = delays; packets = packets })
+    (record { initial = s .initial; count = s .count; live = live; numbers = n′; delays = delays; packets = packets })
+left-in s live delays packets n n′ e = ap (λ (x : Numbers). record { initial = s .initial; count = s .count; live = live; numbers = x; delays = delays; packets = packets }) e
+
+take-requires : tie.Need-take-requires
+take-requires c κs = search needs
+
+sub-moved-down : tie.Need-sub-moved-down
+sub-moved-down c = omega (arith, counts (c .before .before .before .before .before .before) .1)
+
+base-requires : tie.Need-base-requires
+base-requires c κs = search needs
+
+hear-requires : tie.Need-hear-requires
+hear-requires c κs = let q = counts (c .before .before .before .before .before .before .before) in
+    (omega (arith, q), omega (arith, q), q .2, c .before .before .before .before .before .before .before .pre .1, c .before .before .before .before .before .before .before .pre .2, c .before .before .before .before .before .before .before .pre .3)
+
+accepted-requires : tie.Need-accepted-requires
+accepted-requires c κs = search needs
+
+returns : tie.Need-returns
+returns c = let a = c .before .before .before .before .before .before .before .before .before .before .before .args in
+    ap (λ (n : Numbers). stateWith (a .self) (a .self .count) (a .self .live) n (a .self .packets)) (c .accepted .ensures)
+    ∙ quiet (c .before .before .before .before .before .before .before .before .before .before .before .args .self) (full (c .before .before .before .before .before .before .before .before .before .before .before)) (c .before .before .before .before .before .before .before .before .before .before .before .pre .0) (c .before .before .before .before .before .before .before .before .before .before .before .args .offset) (now (c .before .before .before .before .before .before .before .before .before .before .before .args .sack)) (c .before .before .before .before .before .before .before .before .before .before .before .args .delay) (c .before .before .before .before .before .before .before .before .before .before .before .args .clock) (c .before .before .before .before .before .before .take .result) (c .before .before .before .before .base .result) (c .before .before .before .before .before .before .take .ensures) (c .before .before .before .before .base .ensures) (sym (ap (λ (h : Heard). h .news) (c .before .before .before .hear .ensures)) ∙ c .before .if1 .taken)
+
+lose-requires : tie.Need-lose-requires
+lose-requires c κs = counts (c .before .before .before .before .before .before .before .before .before .before) .0
+
+acked-run-requires : tie.Need-acked-run-requires
+acked-run-requires c κs = counts (c .before .before .before .before .before .before .before .before .before .before .before .before .before) .0
+
+sub-moved-down-2 : tie.Need-sub-moved-down-2
+sub-moved-down-2 c = search needs
+
+moved-down-requires : tie.Need-moved-down-requires
+moved-down-requires c κs = omega (arith, counts (c .before .before .before .before .before .before .before .before .before .before .before .before .before .before) .0, c .acked-run .ensures .1)
+
+sub-next : tie.Need-sub-next
+sub-next c = search needs
+
+accepted-requires-2 : tie.Need-accepted-requires-2
+accepted-requires-2 c κs = search needs
+
+returns-2 : tie.Need-returns-2
+returns-2 c = let a = c .before .before .before .before .before .before .before .before .before .before .before .before .before .before .before .before .args in
+    let live = a .self .live in
+    let same : c .before .before .before .before .before .lose .result ≡ lossHeardOf (heardOn (c .before .before .before .before .before .before .before .before .before .before .before .before .before .before .before .before .args .self) (full (c .before .before .before .before .before .before .before .before .before .before .before .before .before .before .before .before)) (c .before .before .before .before .before .before .before .before .before .before .before .before .before .before .before .before .pre .0) (c .before .before .before .before .before .before .before .before .before .before .before .before .before .before .before .before .args .offset) (now (c .before .before .before .before .before .before .before .before .before .before .before .before .before .before .before .before .args .sack)) (c .before .before .before .before .before .before .before .before .before .before .before .before .before .before .before .before .args .delay) (c .before .before .before .before .before .before .before .before .before .before .before .before .before .before .before .before .args .clock) (c .before .before .before .before .before .before .before .before .before .before .before .take .result) (c .before .before .before .before .before .before .before .before .before .base .result) (c .before .before .before .before .before .before .before .before .before .before .before .take .ensures) (c .before .before .before .before .before .before .before .before .before .base .ensures)) live = c .before .before .before .before .before .lose .ensures ∙ ap (λ (h : Heard). lossHeardOf h live) (c .before .before .before .before .before .before .before .before .hear .ensures) in
+    let packets = ap (λ (h : Heard). h .packets) same in
+    left-in (a .self) (live - c .before .before .acked-run .result) (c .before .before .before .before .before .before .before .before .before .before .before .take .result) (c .before .moved-down .result) (c .accepted2 .result) _ (c .accepted2 .ensures ∙ ap (λ (h : Heard). acceptedOf (h .numbers) (a .clock)) same)
+    ∙ loud (c .before .before .before .before .before .before .before .before .before .before .before .before .before .before .before .before .args .self) (full (c .before .before .before .before .before .before .before .before .before .before .before .before .before .before .before .before)) (c .before .before .before .before .before .before .before .before .before .before .before .before .before .before .before .before .pre .0) (c .before .before .before .before .before .before .before .before .before .before .before .before .before .before .before .before .args .offset) (now (c .before .before .before .before .before .before .before .before .before .before .before .before .before .before .before .before .args .sack)) (c .before .before .before .before .before .before .before .before .before .before .before .before .before .before .before .before .args .delay) (c .before .before .before .before .before .before .before .before .before .before .before .before .before .before .before .before .args .clock) (c .before .before .before .before .before .before .before .before .before .before .before .take .result) (c .before .before .before .before .before .before .before .before .before .base .result) (c .before .before .before .before .before .before .before .before .before .before .before .take .ensures) (c .before .before .before .before .before .before .before .before .before .base .ensures)
+    (λ z. c .before .before .before .before .before .before .if1 .left (ap (λ (h : Heard). h .news) (c .before .before .before .before .before .before .before .before .hear .ensures) ∙ z))
+    (c .before .before .acked-run .result) (c .before .moved-down .result) (c .before .before .acked-run .ensures .1)
+    (ap (λ (l : List Packet). fromUnacked (take live l)) (sym packets) ∙ c .before .before .acked-run .ensures .0 ∙ ap (λ (l : List Packet). drop (c .before .before .acked-run .result) (take live l)) packets)
+    (c .before .moved-down .ensures ∙ ap (λ (l : List Packet). take (live - c .before .before .acked-run .result) (drop (c .before .before .acked-run .result) l) ++ drop (live - c .before .before .acked-run .result) l) packets)
+
+pub acknowledged-spec : {M : Type 1} → statement M
+acknowledged-spec =
+    tie.close
+    (tie.spec
+    take-requires
+    sub-moved-down
+    base-requires
+    hear-requires
+    accepted-requires
+    returns
+    lose-requires
+    acked-run-requires
+    sub-moved-down-2
+    moved-down-requires
+    sub-next
+    accepted-requires-2
+    returns-2)

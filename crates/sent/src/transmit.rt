@@ -1,0 +1,150 @@
+// A transmit: the first of a packet, or a retransmission.
+use crate::answer::Outcome;
+use crate::answer::Reason;
+use crate::answer::Tracked;
+use crate::state::Packet;
+use crate::state::SentPackets;
+use congestion::numbers::Numbers;
+use congestion::settings::Settings;
+use packet::header::PacketType;
+use packet::seq::SeqNum;
+ghost use mathlib.Core.Path.{_≡_};
+ghost use mathlib.Core.Bool.{true};
+ghost use Prim.Native.Nat.{_≤_, _<_, _-_, _+_};
+ghost use Rattle.sent.specs.Answers.{outcome, told};
+ghost use Rattle.sent.specs.Tracker.{clockedOf};
+ghost use Rattle.sent.specs.Transmit.{transmitCheck, resentOf, recordedOf, withResent};
+ghost use Rattle.sent.specs.State.{stateSoundOf, trackerOf, writtenOf, transmitAnswer};
+
+// The checks of a transmit, in their order: 11, 12, and of a first one 15, 13, 14.
+fn transmit_check(
+    numbers: Numbers,
+    count: u32,
+    live: u32,
+    offset: u32,
+    len: u32,
+    clock: u64,
+) -> Outcome
+    requires { ⌜ count ≤ 60000 ⌝ }
+    ensures { λ r. ⌜ outcome r ≡ transmitCheck numbers count live offset len clock ⌝ }
+{
+    if Settings::LATEST < clock {
+        return Outcome::Refused(Reason::BadTime);
+    }
+    if clock < numbers.last {
+        return Outcome::Refused(Reason::BadTime);
+    }
+    if offset == 0 {
+        return Outcome::Refused(Reason::NotSent);
+    }
+    if count + 1 < offset {
+        return Outcome::Refused(Reason::NotSent);
+    }
+    if offset <= count {
+        return Outcome::Done;
+    }
+    if SentPackets::MOST_SENT <= count {
+        return Outcome::Refused(Reason::TooMany);
+    }
+    if numbers.free_window() < len {
+        return Outcome::Refused(Reason::NoWindow);
+    }
+    if SentPackets::PLACES <= live {
+        return Outcome::Refused(Reason::NoPlace);
+    }
+    Outcome::Done
+}
+
+impl Packet {
+    // Sent again.
+    fn sent_again(self) -> Packet
+        ensures { λ r. ⌜ r ≡ withResent self ⌝ }
+    {
+        let mut next = self;
+        next.resent = 1;
+        next
+    }
+}
+
+impl SentPackets {
+    // A retransmission, which is noted where the packet is still kept.
+    fn resent(self, offset: u32, clock: u64) -> SentPackets
+        requires { ⌜ (stateSoundOf self ≡ true) × (offset ≤ self .count) ⌝ }
+        ensures { λ r. ⌜ r ≡ writtenOf self (clockedOf (resentOf (trackerOf self) offset) clock) ⌝ }
+    {
+        let numbers = self.numbers;
+        let gone = self.count - self.live;
+        let mut next = self;
+        next.numbers = numbers.accepted(clock);
+        if offset <= gone {
+            return next;
+        }
+        let place = (offset - gone - 1) as usize;
+        let p = next.packets[place];
+        next.packets[place] = p.sent_again();
+        next
+    }
+
+    // A first transmit, which is recorded behind the last.
+    fn recorded(self, packet: Packet, clock: u64) -> SentPackets
+        requires { ⌜ (stateSoundOf self ≡ true) × (self .live < 512) ⌝ }
+        ensures { λ r. ⌜ r ≡ writtenOf self (clockedOf (recordedOf (trackerOf self) packet) clock) ⌝ }
+    {
+        let numbers = self.numbers;
+        let place = self.live as usize;
+        let mut next = self;
+        next.count = self.count + 1;
+        next.live = self.live + 1;
+        next.numbers = numbers.transmitted(packet.len).accepted(clock);
+        next.packets[place] = packet;
+        next
+    }
+
+    // A packet goes out. Up to the last number sent it is a retransmission, whatever its length.
+    // Refused with 19, 11, 12, and a first transmit with 15, 13, 14, in this order.
+    pub fn on_transmit(
+        self,
+        number: SeqNum,
+        packet_type: PacketType,
+        tag: u32,
+        len: u32,
+        clock: u64,
+    ) -> Tracked
+        ensures { λ r. ⌜ told r ≡ transmitAnswer self number «packet_type» tag len clock ⌝ }
+    {
+        if !self.sound() {
+            return Tracked {
+                answer: Outcome::Refused(Reason::NotSound),
+                state: self,
+            };
+        }
+        let numbers = self.numbers;
+        let offset = number.offset_from(SeqNum(self.initial)).0 as u32;
+        let check = transmit_check(numbers, self.count, self.live, offset, len, clock);
+        if let Outcome::Refused(reason) = check {
+            return Tracked {
+                answer: Outcome::Refused(reason),
+                state: self,
+            };
+        }
+        if offset <= self.count {
+            return Tracked {
+                answer: Outcome::Done,
+                state: self.resent(offset, clock),
+            };
+        }
+        let packet = Packet {
+            sent_at: clock,
+            tag,
+            len,
+            kind: packet_type.number(),
+            acked: 0,
+            lost: 0,
+            resent: 0,
+        };
+        Tracked {
+            answer: Outcome::Done,
+            state: self.recorded(packet, clock),
+        }
+    }
+}
