@@ -133,13 +133,32 @@ fn seen_write(written: Written, feed: Feed, window: &mut [u8]) -> Step {
     let mut seen = [0u64; 4];
     let behind = feed.numbers(window, &WRITE_SEEN, &mut seen);
     let state = written.state;
-    let answer = of_writing(written.answer);
+    let writing = written.answer;
+    let answer = of_writing(writing);
     let is_equal = both(answer.number == seen[0], answer.value == seen[2]);
     Step {
         state,
         answer: seen[0],
         is_same: both(is_equal, counted(state.available()) == seen[3]),
         feed: behind,
+    }
+}
+
+// A write that was taken from the list: its number, and the length of its payload.
+struct Asked {
+    number: u16,
+    len: usize,
+    feed: Feed,
+}
+
+fn take_write(feed: Feed, window: &mut [u8], payload: &mut [u8]) -> Asked {
+    let mut input = [0u64; 2];
+    let head = feed.numbers(window, &WRITE, &mut input);
+    let len = (input[1] % 65536) as usize;
+    Asked {
+        number: (input[0] % 65536) as u16,
+        len,
+        feed: head.bytes(window, payload, len),
     }
 }
 
@@ -151,13 +170,9 @@ pub fn write(
     buf: &mut [u8],
     payload: &mut [u8],
 ) -> Step {
-    let mut input = [0u64; 2];
-    let head = feed.numbers(window, &WRITE, &mut input);
-    let size = (input[1] % 65536) as usize;
-    let behind = head.bytes(window, payload, size);
-    let number = SeqNum((input[0] % 65536) as u16);
-    let written = state.write(buf, number, front(payload, size));
-    seen_write(written, behind, window)
+    let asked = take_write(feed, window, payload);
+    let written = state.write(buf, SeqNum(asked.number), front(payload, asked.len));
+    seen_write(written, asked.feed, window)
 }
 
 // Output length, answer, source, count.
@@ -192,15 +207,27 @@ pub fn read(
 ) -> Step {
     let mut input = [0u64; 4];
     let head = feed.numbers(window, &READ, &mut input);
+    read_taken(state, input, head, window, buf, out)
+}
+
+fn read_taken(
+    state: ReceiveBuffer,
+    input: [u64; 4],
+    feed: Feed,
+    window: &mut [u8],
+    buf: &mut [u8],
+    out: &mut [u8],
+) -> Step {
     let room = (input[0] % 65537) as usize;
     let size = (input[3] % 65537) as usize;
     let taken = read_into(state, buf, out, room);
     let next = taken.state;
+    let count = taken.answer;
     seen_read(
         next,
-        of_count(taken.answer),
+        of_count(count),
         input,
-        head,
+        feed,
         window,
         front(out, room),
         size,
@@ -247,9 +274,20 @@ pub fn ack(state: ReceiveBuffer, feed: Feed, window: &mut [u8], out: &mut [u8]) 
     let mut input = [0u64; 5];
     let head = feed.numbers(window, &ACK, &mut input);
     let room = (input[0] % 65536) as usize;
-    let size = (input[4] % 65536) as usize;
     let answer = ack_into(state, out, room);
-    let held = held_out(head, window, out, size, room);
+    seen_ack(state, answer, input, head, window, front(out, room))
+}
+
+fn seen_ack(
+    state: ReceiveBuffer,
+    answer: Answer,
+    input: [u64; 5],
+    feed: Feed,
+    window: &mut [u8],
+    out: &[u8],
+) -> Step {
+    let size = (input[4] % 65536) as usize;
+    let held = held_out(feed, window, out, size, out.len());
     let behind = held.feed;
     let is_equal = both(answer.number == input[1], answer.value == input[4]);
     let is_shown = both(held.is_same, numbered(state.ack_num()) == input[3]);
@@ -311,7 +349,8 @@ fn write_next(next: Next, buf: &mut [u8]) -> Next {
     let state = next.state;
     let number = SeqNum((numbered(state.ack_num()) % 65536) as u16);
     let written = state.write(buf, number.plus(1), front(&none, 0));
-    let answer = of_writing(written.answer);
+    let writing = written.answer;
+    let answer = of_writing(writing);
     let after = written.state;
     let is_stored = both(answer.number == 0, answer.value == 0);
     Next {

@@ -5,7 +5,6 @@ use crate::event::Step;
 use feed::Feed;
 use feed::both;
 use packet::seq::SeqNum;
-use recv::Created;
 use recv::Creation;
 use recv::ReceiveBuffer;
 use report::tally::Tally;
@@ -92,22 +91,32 @@ fn step(
     }
 }
 
-fn one_event(run: Run, window: &mut [u8], buf: &mut [u8], out: &mut [u8]) -> Run {
-    let totals = run.totals;
-    let kind = totals.feed.number(window, 1);
-    let step = step(run.state, kind.value, kind.feed, window, buf, out);
+// The session after an event that was compared.
+fn after(totals: Totals, kind: u64, step: Step) -> Run {
     let state = step.state;
     let behind = step.feed;
     let is_same = both(step.is_same, !behind.short);
     Run {
         state,
-        totals: counted(
-            moved(totals, behind, true),
-            kind.value,
-            step.answer,
-            is_same,
-        ),
+        totals: counted(moved(totals, behind, true), kind, step.answer, is_same),
     }
+}
+
+fn stepped(
+    run: Run,
+    kind: u64,
+    feed: Feed,
+    window: &mut [u8],
+    buf: &mut [u8],
+    out: &mut [u8],
+) -> Run {
+    let step = step(run.state, kind, feed, window, buf, out);
+    after(run.totals, kind, step)
+}
+
+fn one_event(run: Run, window: &mut [u8], buf: &mut [u8], out: &mut [u8]) -> Run {
+    let kind = run.totals.feed.number(window, 1);
+    stepped(run, kind.value, kind.feed, window, buf, out)
 }
 
 fn all_events(run: Run, window: &mut [u8], buf: &mut [u8], out: &mut [u8], count: u64) -> Run {
@@ -161,19 +170,30 @@ fn with_session(totals: Totals, answer: u64, is_same: bool) -> Totals {
     }
 }
 
+// A session whose head was taken.
+fn run_session(
+    totals: Totals,
+    head: [u64; 4],
+    window: &mut [u8],
+    buffer: &mut [u8],
+    out: &mut [u8],
+) -> Totals {
+    let length = (head[0] % 4294967296) as usize;
+    let created = ReceiveBuffer::new(SeqNum((head[1] % 65536) as u16), length);
+    let answer = created.answer;
+    let state = created.state;
+    let is_same = number_of(answer) == head[2];
+    let run = Run {
+        state,
+        totals: with_session(totals, head[2], is_same),
+    };
+    over(run, window, buffer, out, length, head[3]).totals
+}
+
 fn session(totals: Totals, window: &mut [u8], buffer: &mut [u8], out: &mut [u8]) -> Totals {
     let mut head = [0u64; 4];
     let behind = totals.feed.numbers(window, &WIDTHS, &mut head);
-    let length = (head[0] % 4294967296) as usize;
-    let created = ReceiveBuffer::new(SeqNum((head[1] % 65536) as u16), length);
-    let is_same = number_of(created.answer) == head[2];
-    let state = created.state;
-    let counted = with_session(moved(totals, behind, true), head[2], is_same);
-    let run = Run {
-        state,
-        totals: counted,
-    };
-    over(run, window, buffer, out, length, head[3]).totals
+    run_session(moved(totals, behind, true), head, window, buffer, out)
 }
 
 fn next_session(totals: Totals, window: &mut [u8], buffer: &mut [u8], out: &mut [u8]) -> Totals {

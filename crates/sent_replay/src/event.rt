@@ -70,11 +70,11 @@ fn transmitted(state: SentPackets, event: [u64; 6], number: SeqNum, tag: u32) ->
     state.on_transmit(number, type_of(event[1]), tag, length, event[4])
 }
 
-// Kind 4: as many first transmits as the delay says, until one is refused.
-fn transmitted_run(state: SentPackets, event: [u64; 6], tag: u32) -> Tracked {
+// Kind 4: so many first transmits, until one is refused.
+fn transmitted_run(state: SentPackets, event: [u64; 6], tag: u32, count: u64) -> Tracked {
     let mut number = SeqNum((event[2] % 65536) as u16);
     let mut tracked = transmitted(state, event, number, tag);
-    for _ in 1..event[5] {
+    for _ in 1..count {
         number = number.plus(1);
         tracked = transmitted_next(tracked, event, number, tag);
     }
@@ -101,7 +101,7 @@ fn applied(state: SentPackets, event: [u64; 6], sack: &[u8], tag: u32) -> Tracke
     if kind == 3 {
         return state.on_timeout();
     }
-    transmitted_run(state, event, tag)
+    transmitted_run(state, event, tag, event[5])
 }
 
 fn is_lost(told: LostTold, lost: [u64; 3]) -> bool {
@@ -165,7 +165,13 @@ fn is_shown(state: SentPackets, seen: [u64; 7]) -> bool {
     both(both(sizes, others), lost)
 }
 
-fn compare_lost(tracked: Tracked, kind: u64, seen: [u64; 7], feed: Feed, window: &mut [u8]) -> Step {
+fn compare_lost(
+    tracked: Tracked,
+    kind: u64,
+    seen: [u64; 7],
+    feed: Feed,
+    window: &mut [u8],
+) -> Step {
     let state = tracked.state;
     let answer = tracked.answer;
     let held = held_lost(state, feed, window, seen[6]);
@@ -188,7 +194,13 @@ fn compare_seen(tracked: Tracked, kind: u64, feed: Feed, window: &mut [u8]) -> S
 }
 
 // Takes an event whose index in its session is `tag`.
-pub fn compare(state: SentPackets, tag: u32, feed: Feed, window: &mut [u8], sack: &mut [u8]) -> Step {
+pub fn compare(
+    state: SentPackets,
+    tag: u32,
+    feed: Feed,
+    window: &mut [u8],
+    sack: &mut [u8],
+) -> Step {
     let asked = take_event(feed, window, sack);
     let event = asked.event;
     let tracked = applied(state, event, front(sack, asked.sack_len), tag);

@@ -1,9 +1,9 @@
 // Sessions: settings, the answer to them, a count of events, the events.
-use congestion::settings::Settings;
 use crate::answer::number;
 use crate::answer::of_outcome;
 use crate::answer::seq;
 use crate::event::compare;
+use congestion::settings::Settings;
 use feed::Feed;
 use feed::both;
 use packet::seq::SeqNum;
@@ -113,7 +113,13 @@ fn ended(state: SentPackets) -> [u64; 5] {
 }
 
 // A session whose head was taken.
-fn run_session(kinds: Kinds, settings: [u64; 10], feed: Feed, window: &mut [u8], sack: &mut [u8]) -> Totals {
+fn run_session(
+    kinds: Kinds,
+    settings: [u64; 10],
+    feed: Feed,
+    window: &mut [u8],
+    sack: &mut [u8],
+) -> Totals {
     let tracked = started(settings);
     let state = tracked.state;
     let answer = tracked.answer;
