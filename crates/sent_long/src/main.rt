@@ -36,5 +36,6 @@ fn main() {
     kinds.runs.print(b"runs of transmits");
     kinds.acks.print(b"ack");
     kinds.timeouts.print(b"timeout");
-    print_end(totals.last);
+    let last = totals.last;
+    print_end(last);
 }
