@@ -6,7 +6,7 @@ use crate::trip;
 use crate::window;
 ghost use mathlib.Core.Path.{_≡_};
 ghost use mathlib.Core.Bool.{true};
-ghost use Prim.Native.Nat.{_≤_, _/_, _^_};
+ghost use Prim.Native.Nat.{_≤_, _-_, _/_, _^_};
 ghost use Rattle.congestion.specs.Numbers.{minimumOf, freeOf, soundOf, newOf, acceptedOf, transmittedOf, adjustedOf, landedOf, timedOf, ackedOf, lostOf, timedOutOf, whenSound};
 
 // Times are whole microseconds, sizes bytes.
@@ -24,6 +24,13 @@ pub struct Numbers {
     pub variance: u64,
     pub timeout: u64,
     pub last: u64,
+}
+
+// a - b, or 0.
+fn less(a: u32, b: u32) -> u32
+    ensures { λ r. ⌜ r ≡ a - b ⌝ }
+{
+    if a <= b { 0 } else { a - b }
 }
 
 // Half of a maximum, rounding down.
@@ -134,11 +141,14 @@ impl Numbers {
         next
     }
 
-    // The maximum moved by the window rule, in flight still holding the packet.
-    fn adjusted(self, base: u64, delay: u64, len: u32) -> Numbers
+    // The maximum moved by the window rule with in flight still holding the packet, then in flight
+    // without it.
+    fn windowed(self, base: u64, delay: u64, len: u32) -> Numbers
         requires { ⌜ soundOf self ≡ true ⌝ }
-        ensures { λ r. ⌜ r ≡ adjustedOf self base delay len ⌝ }
+        ensures { λ r. ⌜ r ≡ landedOf (adjustedOf self base delay len) len ⌝ }
     {
+        let flying = self.in_flight;
+        let left = less(self.in_flight, len);
         let step = window::adjustment(
             self.gain,
             self.increase,
@@ -146,24 +156,12 @@ impl Numbers {
             delay,
             base,
             len,
-            self.in_flight,
+            flying,
         );
         let minimum = 2 * self.largest_packet;
         let mut next = self;
         next.maximum = window::next_maximum(minimum, self.increase, self.maximum, step);
-        next
-    }
-
-    // In flight less the packet, or 0.
-    fn landed(self, len: u32) -> Numbers
-        ensures { λ r. ⌜ r ≡ landedOf self len ⌝ }
-    {
-        let mut next = self;
-        if self.in_flight <= len {
-            next.in_flight = 0;
-        } else {
-            next.in_flight = self.in_flight - len;
-        }
+        next.in_flight = left;
         next
     }
 
@@ -192,11 +190,11 @@ impl Numbers {
         if Settings::LATEST < trip {
             return self;
         }
-        let landed = self.adjusted(base, delay, len).landed(len);
+        let windowed = self.windowed(base, delay, len);
         if once {
-            return landed.timed(trip);
+            return windowed.timed(trip);
         }
-        landed
+        windowed
     }
 
     // A new loss: the maximum is halved, rounding down, not below the minimum.

@@ -18,6 +18,8 @@ use Rattle.packet.specs.declared.decode.Decoded.{Decoded}
 use Rattle.packet.specs.declared.decode.Decoded.the-variants.{Accepted, Undecoded}
 use Rattle.packet.specs.declared.encode.Unwritten.{Unwritten}
 use Rattle.packet.specs.declared.encode.Unwritten.the-variants.{BadSack, NoPayload, NoRoom}
+use Rattle.packet.specs.declared.encode.Found.{Found}
+use Rattle.packet.specs.declared.encode.Found.the-variants.{Fit, Unfit}
 use Rattle.packet.specs.declared.encode.Encoded.{Encoded}
 use Rattle.packet.specs.declared.encode.Encoded.the-variants.{Written, Refused}
 
@@ -53,6 +55,10 @@ abbrev pub unwrittenNumber : Unwritten → ℕ
 unwrittenNumber (BadSack r) = sackNumber r
 unwrittenNumber NoPayload = 7
 unwrittenNumber NoRoom = 9
+
+abbrev pub found : Found → Answer ℕ
+found (Fit n) = done n
+found (Unfit r) = refused (unwrittenNumber r)
 
 abbrev pub encoded : Encoded → Answer ℕ
 encoded (Written n) = done n

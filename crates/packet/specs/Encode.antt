@@ -28,8 +28,8 @@ abbrev pub sizeOf : ℕ → ℕ → ℕ
 sizeOf sack payload = cond (eqb sack 0) (20 + payload) (22 + sack + payload)
 
 -- 7: Data with empty payload.
-abbrev pub dataAnswer : Header → List ℕ → Answer ℕ
-dataAnswer h payload = cond (emptyData h (length payload)) (refused 7) (done 0)
+abbrev pub dataAnswer : Header → ℕ → Answer ℕ
+dataAnswer h payload = cond (emptyData h payload) (refused 7) (done 0)
 
 -- 9: output room too small. Else as many bytes are written as the packet has.
 abbrev pub roomAnswer : ℕ → ℕ → Answer ℕ
@@ -38,7 +38,7 @@ roomAnswer size room = cond (ltb room size) (refused 9) (done size)
 -- Order 5, 6, 8, 7, 9.
 unfoldable pub encodeOf : Header → List ℕ → List ℕ → ℕ → Answer ℕ
 encodeOf h sack payload room =
-    maskAnswer (length sack) then dataAnswer h payload then roomAnswer (length (packetBytes h sack payload)) room
+    maskAnswer (length sack) then dataAnswer h (length payload) then roomAnswer (length (packetBytes h sack payload)) room
 
 -- Output past the packet is untouched, and all of it where the packet is refused.
 abbrev pub writtenTo : Answer ℕ → List ℕ → List ℕ → List ℕ

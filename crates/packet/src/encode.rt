@@ -4,8 +4,10 @@ ghost use mathlib.Core.Path.{_≡_};
 ghost use mathlib.Core.List.{[]};
 ghost use lib.ListN.{length};
 ghost use Rattle.common.specs.Laws.Put.{put};
-ghost use Rattle.packet.specs.Encode.{encodeOf, roomOf, packetBytes, sizeOf};
-ghost use Rattle.packet.specs.Answers.{encoded};
+ghost use Rattle.packet.specs.Encode.{encodeOf, roomOf, packetBytes, sizeOf, dataAnswer};
+ghost use Rattle.packet.specs.Sack.{maskAnswer};
+ghost use Rattle.common.specs.Answer.{_then_};
+ghost use Rattle.packet.specs.Answers.{found, encoded};
 use crate::decode::Packet;
 use crate::header::Header;
 use crate::header::is_empty_data;
@@ -28,6 +30,42 @@ pub enum Encoded {
     Refused(Unwritten),
 }
 
+// What a check of one part of a packet finds.
+enum Found {
+    Fit(usize),
+    Unfit(Unwritten),
+}
+
+// The SACK's length, 5, 6, 8.
+fn sack_part(len: usize) -> Found
+    ensures { λ r. ⌜ found r ≡ maskAnswer len ⌝ }
+{
+    match check(len) {
+        Checked::Bad(reason) => Found::Unfit(Unwritten::BadSack(reason)),
+        Checked::Fine(n) => Found::Fit(n),
+    }
+}
+
+// The payload, 7.
+fn data_part(header: Header, len: usize) -> Found
+    ensures { λ r. ⌜ found r ≡ dataAnswer header len ⌝ }
+{
+    if is_empty_data(header, len) {
+        return Found::Unfit(Unwritten::NoPayload);
+    }
+    Found::Fit(0)
+}
+
+// Two checks, one after the other: the first refusal counts.
+fn in_order(first: Found, second: Found) -> Found
+    ensures { λ r. ⌜ found r ≡ (found first then found second) ⌝ }
+{
+    match first {
+        Found::Unfit(reason) => Found::Unfit(reason),
+        Found::Fit(_) => second,
+    }
+}
+
 impl Packet {
     // Writes the packet of a header, a SACK (no bytes: none) and a payload to the front of the
     // room, and answers its size. Refuses with 5, 6, 8, 7, 9, checked in this order.
@@ -35,17 +73,16 @@ impl Packet {
         ensures { λ r. ⌜ (encoded r ≡ encodeOf header (now (sack .entry)) (now (payload .entry)) (length (now (room .entry))))
             × (now (room .exit) ≡ roomOf header (now (sack .entry)) (now (payload .entry)) (now (room .entry))) ⌝ }
     {
-        match check(sack.len()) {
-            Checked::Bad(reason) => Encoded::Refused(Unwritten::BadSack(reason)),
-            Checked::Fine(extended) => {
-                if is_empty_data(header, payload.len()) {
-                    return Encoded::Refused(Unwritten::NoPayload);
-                }
-                let size = size_of(extended, payload.len());
+        let mask = sack_part(sack.len());
+        let data = data_part(header, payload.len());
+        match in_order(mask, data) {
+            Found::Unfit(reason) => Encoded::Refused(reason),
+            Found::Fit(_) => {
+                let size = size_of(sack.len(), payload.len());
                 if room.len() < size {
                     return Encoded::Refused(Unwritten::NoRoom);
                 }
-                if extended == 0 {
+                if sack.len() == 0 {
                     put_plain(room, header, payload);
                 } else {
                     put_sacked(room, header, sack, payload);

@@ -11,7 +11,7 @@ use Rattle.common.specs.Answer.{Answer, done, refused, _then_}
 use Rattle.common.specs.Laws.Put.{put, put-on}
 use Rattle.packet.specs.Layout.{bytes, bytesOf, widths, fieldsOfHeader, emptyData}
 use Rattle.packet.specs.Sack.{maskAnswer}
-use Rattle.packet.specs.Encode.{extensionByte, extensionBytes, packetBytes, sizeOf, encodeOf, roomOf, roomAnswer, writtenTo}
+use Rattle.packet.specs.Encode.{extensionByte, extensionBytes, packetBytes, sizeOf, dataAnswer, encodeOf, roomAnswer}
 use Rattle.packet.specs.Laws.Number.{bytes-two}
 use Rattle.packet.specs.declared.header.Header.{Header}
 
@@ -66,36 +66,44 @@ sacked-put h sack payload l r₁ r₂ r₃ r₄ long some short e₁ e₂ e₃ e
     put-on l ((bytesOf widths (fieldsOfHeader h 1) ++ bytes 2 (length sack)) ++ sack) payload r₃ r₄ (22 + length sack) r₃-is e₄ three (omega arith)
     ∙ ap (put l 0) (pieces h sack payload some short)
 
--- The answers of writing, in the order of the checks.
+-- Two checks and what follows them: a refusal of the two is that of the whole, and where there is none the rest decides.
+two-refused : (a b c : Answer ℕ) (n : ℕ) → (a then b) ≡ refused n → (a then b then c) ≡ refused n
+two-refused (done x) (done y) c n e = let z : _≡_ {A = ℕ} 0 1 = cc in absurd (omega arith)
+two-refused (done x) (refused m) c n e = e
+two-refused (refused m) b c n e = e
+
+two-done : (a b c : Answer ℕ) (n : ℕ) → (a then b) ≡ done n → (a then b then c) ≡ c
+two-done (done x) (done y) c n e = refl
+two-done (done x) (refused m) c n e = let z : _≡_ {A = ℕ} 0 1 = cc in absurd (omega arith)
+two-done (refused m) b c n e = let z : _≡_ {A = ℕ} 0 1 = cc in absurd (omega arith)
+
+-- The answers of writing, in the order of the checks: of the parts, then of the room.
 module _ (h : Header) (sack payload : List ℕ) (room : ℕ) where
-  pub encode-bad-mask : (n : ℕ) → maskAnswer (length sack) ≡ refused n → encodeOf h sack payload room ≡ refused n
+  pub encode-unfit : (n : ℕ) → (maskAnswer (length sack) then dataAnswer h (length payload)) ≡ refused n → encodeOf h sack payload room ≡ refused n
   unfolding encodeOf
-  encode-bad-mask n e = rw e
+  encode-unfit n e = two-refused (maskAnswer (length sack)) (dataAnswer h (length payload)) _ n e
 
-  module _ (m : ℕ) (mask : maskAnswer (length sack) ≡ done m) where
-    pub encode-no-payload : emptyData h (length payload) ≡ true → encodeOf h sack payload room ≡ refused 7
+  module _ (n : ℕ) (fit : (maskAnswer (length sack) then dataAnswer h (length payload)) ≡ done n) where
+    rest : encodeOf h sack payload room ≡ roomAnswer (length (packetBytes h sack payload)) room
     unfolding encodeOf
-    encode-no-payload e = rw (mask, e)
+    rest = two-done (maskAnswer (length sack)) (dataAnswer h (length payload)) _ n fit
 
-    module _ (some : emptyData h (length payload) ≡ false) where
-      pub encode-no-room : room < sizeOf (length sack) (length payload) → encodeOf h sack payload room ≡ refused 9
-      unfolding encodeOf
-      encode-no-room e = rw (mask, some, packet-length h sack payload, lt-ltb _ _ e)
+    pub encode-no-room : room < sizeOf (length sack) (length payload) → encodeOf h sack payload room ≡ refused 9
+    encode-no-room e = rest ∙ rw (packet-length h sack payload, lt-ltb _ _ e)
 
-      pub encode-written : sizeOf (length sack) (length payload) ≤ room → encodeOf h sack payload room ≡ done (sizeOf (length sack) (length payload))
-      unfolding encodeOf
-      encode-written e = rw (mask, some, packet-length h sack payload, le-ltb _ _ e)
+    pub encode-written : sizeOf (length sack) (length payload) ≤ room → encodeOf h sack payload room ≡ done (sizeOf (length sack) (length payload))
+    encode-written e = rest ∙ rw (packet-length h sack payload, le-ltb _ _ e)
 
--- A mask that may be written is as long as the answer says, and at most 252 bytes.
-pub mask-done : (n m : ℕ) → maskAnswer n ≡ done m → (n ≡ m) × (n ≤ 252)
-mask-done n m = go (eqb n 0) (ltb n 4) (eqb (n % 4) 0) (ltb 252 n) refl refl
+-- A mask that may be written has at most 252 bytes.
+pub mask-short : (n : ℕ) (b : Answer ℕ) (k : ℕ) → (maskAnswer n then b) ≡ done k → n ≤ 252
+mask-short n b k = go (eqb n 0) (ltb n 4) (eqb (n % 4) 0) (ltb 252 n) refl refl
   where
     go :
         (b₁ b₂ b₃ b₄ : Bool) → eqb n 0 ≡ b₁ → ltb 252 n ≡ b₄
-        → cond b₁ (done 0) (cond b₂ (refused 5) (cond b₃ (cond b₄ (refused 8) (done n)) (refused 6))) ≡ done m
-        → (n ≡ m) × (n ≤ 252)
-    go true b₂ b₃ b₄ t u e = let z : 0 ≡ m = cc in (omega (arith, eqb-true n 0 t), omega (arith, eqb-true n 0 t))
+        → (cond b₁ (done 0) (cond b₂ (refused 5) (cond b₃ (cond b₄ (refused 8) (done n)) (refused 6))) then b) ≡ done k
+        → n ≤ 252
+    go true b₂ b₃ b₄ t u e = omega (arith, eqb-true n 0 t)
     go false true b₃ b₄ t u e = let z : _≡_ {A = ℕ} 0 1 = cc in absurd (omega arith)
     go false false false b₄ t u e = let z : _≡_ {A = ℕ} 0 1 = cc in absurd (omega arith)
     go false false true true t u e = let z : _≡_ {A = ℕ} 0 1 = cc in absurd (omega arith)
-    go false false true false t u e = (cc, omega (arith, ltb-false 252 n u))
+    go false false true false t u e = omega (arith, ltb-false 252 n u)

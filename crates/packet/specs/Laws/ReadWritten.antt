@@ -16,7 +16,7 @@ use Rattle.packet.specs.Decode.{behindHeader, chainOf, decodeOf, partOf}
 use Rattle.packet.specs.Encode.{extensionByte, extensionBytes, packetBytes, sizeOf, encodeOf}
 use Rattle.packet.specs.Laws.Chain.{chain-ends, chain-found}
 use Rattle.packet.specs.Laws.Decode.{decode-good, part-middle}
-use Rattle.packet.specs.Laws.Encode.{header-length, packet-length, encode-bad-mask, encode-no-payload}
+use Rattle.packet.specs.Laws.Encode.{header-length, packet-length, encode-unfit}
 use Rattle.packet.specs.Laws.Layout.{type-small}
 use Rattle.packet.specs.Laws.RoundTrip.{Fitted, fields-of-bytes}
 use Rattle.packet.specs.declared.decode.Packet.{Packet}
@@ -220,7 +220,7 @@ read-encoded h sack payload room n fits e = by-mask (maskAnswer (length sack)) r
         → (b : Bool) → emptyData h (length payload) ≡ b
         → decodeOf (packetBytes h sack payload) ≡ done (record { header = h; sack = placeOfSack sack; payload = placeOfPayload sack payload })
     by-data m mask true t =
-        let no = encode-no-payload h sack payload room m mask t in
+        let no = encode-unfit h sack payload room 7 (rw (mask, t)) in
         let z : _≡_ {A = ℕ} 0 1 = cc in
         absurd (omega arith)
     by-data m mask false t = read-written h sack payload m fits mask t
@@ -229,7 +229,7 @@ read-encoded h sack payload room n fits e = by-mask (maskAnswer (length sack)) r
         (a : Answer ℕ) → maskAnswer (length sack) ≡ a
         → decodeOf (packetBytes h sack payload) ≡ done (record { header = h; sack = placeOfSack sack; payload = placeOfPayload sack payload })
     by-mask (refused k) bad =
-        let no = encode-bad-mask h sack payload room k bad in
+        let no = encode-unfit h sack payload room k (rw bad) in
         let z : _≡_ {A = ℕ} 0 1 = cc in
         absurd (omega arith)
     by-mask (done m) mask = by-data m mask (emptyData h (length payload)) refl

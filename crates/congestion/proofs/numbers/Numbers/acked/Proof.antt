@@ -1,9 +1,8 @@
--- `acked` meets its contract: the steps are the definition's, in its order, and what the first two leave is sound.
+-- `acked` meets its contract: the steps are the definition's, in its order, and what the window's leave is sound.
 use mathlib.Core.Path.{_≡_, sym, ap, _∙_}
 use mathlib.Core.Bool.{true, false}
 use borrow.Author.Tests.{not-true, not-false, lt-leb, le-leb}
-use Rattle.congestion.specs.Numbers.{soundOf, landedOf, creditedOf}
-use Rattle.congestion.specs.declared.numbers.Numbers.{Numbers}
+use Rattle.congestion.specs.Numbers.{soundOf, creditedOf}
 use Rattle.congestion.specs.Laws.Numbers.{sound-facts, sound-from, adjusted-sound, landed-sound}
 use borrow.Author.Needs.{needs}
 use Rattle.congestion.proofs.numbers.Numbers.acked.Statement.{statement}
@@ -24,38 +23,32 @@ returns c = simp (unsound c)
 returns-2 : tie.Need-returns-2
 returns-2 c = simp (sound-here (c .before), lt-leb _ _ (c .if2 .taken))
 
-adjusted-requires : tie.Need-adjusted-requires
-adjusted-requires c κs = sound-here (c .before)
-
-landed-requires : tie.Need-landed-requires
-landed-requires c κs = search needs
+windowed-requires : tie.Need-windowed-requires
+windowed-requires c κs = sound-here (c .before)
 
 timed-requires : tie.Need-timed-requires
 timed-requires c κs =
-    let landed = c .before in
-    let adjusted = landed .before in
-    let start = adjusted .before .before .before .before in
+    let windowed = c .before in
+    let start = windowed .before .before .before .before in
     let n = start .args .self in
-    let s = sound-facts n (sound-here (adjusted .before .before)) in (
-      ap soundOf (landed .landed .ensures ∙ ap (λ (m : Numbers). landedOf m (start .args .len)) (adjusted .adjusted .ensures))
+    let s = sound-facts n (sound-here (windowed .before .before)) in (
+      ap soundOf (windowed .windowed .ensures)
           ∙ sound-from _ (landed-sound _ (start .args .len) (adjusted-sound n (start .args .base) (start .args .delay) (start .args .len) s)),
-      adjusted .before .if2 .left,
+      windowed .before .if2 .left,
     )
 
 returns-3 : tie.Need-returns-3
 unfolding creditedOf
 returns-3 c =
     let taken = c .before in
-    let landed = taken .before in
-    let adjusted = landed .before in
-    simp (sound-here (adjusted .before .before), le-leb _ _ (adjusted .before .if2 .left), taken .if3 .taken, c .timed .ensures, landed .landed .ensures, adjusted .adjusted .ensures)
+    let windowed = taken .before in
+    simp (sound-here (windowed .before .before), le-leb _ _ (windowed .before .if2 .left), taken .if3 .taken, c .timed .ensures, windowed .windowed .ensures)
 
 returns-4 : tie.Need-returns-4
 unfolding creditedOf
 returns-4 c =
-    let landed = c .before in
-    let adjusted = landed .before in
-    simp (sound-here (adjusted .before .before), le-leb _ _ (adjusted .before .if2 .left), c .if3 .left, landed .landed .ensures, adjusted .adjusted .ensures)
+    let windowed = c .before in
+    simp (sound-here (windowed .before .before), le-leb _ _ (windowed .before .if2 .left), c .if3 .left, windowed .windowed .ensures)
 
 pub acked-spec : {M : Type 1} → statement M
 acked-spec =
@@ -64,8 +57,7 @@ acked-spec =
     sound-requires
     returns
     returns-2
-    adjusted-requires
-    landed-requires
+    windowed-requires
     timed-requires
     returns-3
     returns-4)
