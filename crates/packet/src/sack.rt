@@ -1,5 +1,7 @@
 // The selective ACK: a mask of bits, the lowest of the first byte first. Bit 0 means ack + 2.
 ghost use mathlib.Core.Path.{_≡_};
+ghost use Prim.Native.Nat.{_/_, _%_, _^_};
+ghost use lib.Dec.{eqb};
 ghost use lib.ListN.{length};
 ghost use Rattle.packet.specs.Sack.{bitCountOf, bitOf, meantBy, maskAnswer};
 ghost use Rattle.packet.specs.Answers.{checked};
@@ -49,13 +51,20 @@ pub fn bit_count(mask: &[u8]) -> usize
     }
 }
 
+// Is the bit set in its byte? Within a byte the order is from the lowest.
+fn is_set_in(byte: u8, bit: usize) -> bool
+    ensures { λ r. ⌜ r ≡ eqb (byte / 2 ^ (bit % 8) % 2) 1 ⌝ }
+{
+    (byte >> (bit % 8)) % 2 == 1
+}
+
 // Is the bit set? Past the end none is.
 pub fn is_set(mask: &[u8], bit: usize) -> bool
     ensures { λ r. ⌜ r ≡ bitOf (now (mask .entry)) bit ⌝ }
 {
     let at = bit / 8;
     if at < mask.len() {
-        (mask[at] >> (bit % 8)) % 2 == 1
+        is_set_in(mask[at], bit)
     } else {
         false
     }

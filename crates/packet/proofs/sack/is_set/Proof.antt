@@ -5,29 +5,18 @@ use denote.Ref.{now}
 use borrow.Author.Needs.{needs}
 use Rattle.packet.proofs.sack.is_set.Statement.{statement}
 use Rattle.packet.proofs.sack.is_set.Tie as tie
-use Rattle.packet.proofs.sack.is_set.Reads as reads
-use Rattle.packet.proofs.sack.is_set.Lts as lts
 
--- src/sack.rt:59:10
-shared-slice-read-result : tie.Need-shared-slice-read-result
-shared-slice-read-result c = search needs
+shared-slice-read-is-set-in : tie.Need-shared-slice-read-is-set-in
+shared-slice-read-is-set-in c = search needs
 
--- src/sack.rt:59:23
-cast-result : tie.Need-cast-result
-cast-result c = search needs
+is-set-in-requires : tie.Need-is-set-in-requires
+is-set-in-requires c κs = search needs
 
--- src/sack.rt:59:10
-shr-result : tie.Need-shr-result
-shr-result c = search needs
-
--- src/sack.rt:54:1
 returns : tie.Need-returns
 returns c = search needs
 
--- src/sack.rt:54:1
 returns-2 : tie.Need-returns-2
-returns-2 c = simp (List·getD-eq-default (now (c .before .args .mask)) 0 (c .if1 .left), zero-div)
+returns-2 c = simp (List·getD-eq-default (now (c .before .before .args .mask)) 0 (c .if1 .left), zero-div)
 
 pub is-set-spec : {M : Type 1} → statement M
-is-set-spec =
-    tie.close (tie.spec shared-slice-read-result cast-result shr-result returns returns-2)
+is-set-spec = tie.close (tie.spec shared-slice-read-is-set-in is-set-in-requires returns returns-2)
