@@ -24,8 +24,9 @@ freeOf n = n .maximum - n .«in_flight»
 
 -- ---- numbers with some of them replaced
 
-abbrev pub withWindow : Numbers → ℕ → ℕ → Numbers
-withWindow n maximum in-flight =
+-- What the events of a session move; the settings stay.
+abbrev pub movedOf : Numbers → ℕ → ℕ → ℕ → ℕ → ℕ → ℕ → Numbers
+movedOf n maximum in-flight trip variance timeout last =
     record {
       target = n .target;
       «largest_packet» = n .«largest_packet»;
@@ -35,46 +36,21 @@ withWindow n maximum in-flight =
       «minimum_timeout» = n .«minimum_timeout»;
       «delay_window» = n .«delay_window»;
       gain = n .gain;
-      trip = n .trip;
-      variance = n .variance;
-      timeout = n .timeout;
-      last = n .last;
-    }
-
-abbrev pub withTrip : Numbers → ℕ → ℕ → ℕ → Numbers
-withTrip n trip variance timeout =
-    record {
-      target = n .target;
-      «largest_packet» = n .«largest_packet»;
-      increase = n .increase;
-      maximum = n .maximum;
-      «in_flight» = n .«in_flight»;
-      «minimum_timeout» = n .«minimum_timeout»;
-      «delay_window» = n .«delay_window»;
-      gain = n .gain;
       trip = trip;
       variance = variance;
       timeout = timeout;
-      last = n .last;
+      last = last;
     }
+
+abbrev pub withWindow : Numbers → ℕ → ℕ → Numbers
+withWindow n maximum in-flight = movedOf n maximum in-flight (n .trip) (n .variance) (n .timeout) (n .last)
+
+abbrev pub withTrip : Numbers → ℕ → ℕ → ℕ → Numbers
+withTrip n trip variance timeout = movedOf n (n .maximum) (n .«in_flight») trip variance timeout (n .last)
 
 -- The last accepted now.
 abbrev pub acceptedOf : Numbers → ℕ → Numbers
-acceptedOf n clock =
-    record {
-      target = n .target;
-      «largest_packet» = n .«largest_packet»;
-      increase = n .increase;
-      maximum = n .maximum;
-      «in_flight» = n .«in_flight»;
-      «minimum_timeout» = n .«minimum_timeout»;
-      «delay_window» = n .«delay_window»;
-      gain = n .gain;
-      trip = n .trip;
-      variance = n .variance;
-      timeout = n .timeout;
-      last = clock;
-    }
+acceptedOf n clock = movedOf n (n .maximum) (n .«in_flight») (n .trip) (n .variance) (n .timeout) clock
 
 -- ---- the start
 

@@ -12,7 +12,7 @@ use Rattle.congestion.specs.declared.numbers.Numbers.{Numbers}
 use Rattle.congestion.specs.Settings.{between, latest, gainInRangeOf, inRangeOf, timesInRangeOf}
 use Rattle.congestion.specs.Trip.{varianceOf, tripOf}
 use Rattle.congestion.specs.Window.{adjustmentOf, nextMaximumOf}
-use Rattle.congestion.specs.Numbers.{longestTimeout, minimumOf, withWindow, withTrip, startOf, rulesSoundOf, runningSoundOf, soundOf, acceptedOf, sentOf, adjustedOf, landedOf, timedOf, creditedOf, lostOf, timedOutOf}
+use Rattle.congestion.specs.Numbers.{longestTimeout, minimumOf, movedOf, withWindow, withTrip, startOf, rulesSoundOf, runningSoundOf, soundOf, acceptedOf, sentOf, adjustedOf, landedOf, timedOf, creditedOf, lostOf, timedOutOf}
 use Rattle.congestion.specs.Laws.Trip.{moved-at-most, apart-at-most}
 use Rattle.congestion.specs.Laws.Window.{maximum-at-least-minimum, maximum-grows-by-increase, maximum-falls-to-minimum}
 
@@ -106,10 +106,10 @@ sound-from n s =
 
 -- ---- soundness is kept
 
-with-window : (n : Numbers) (maximum in-flight : ℕ) → Sound n → minimumOf n ≤ maximum → Sound (withWindow n maximum in-flight)
-with-window n maximum in-flight s h =
+moved-sound : (n : Numbers) (maximum in-flight trip variance timeout last : ℕ) → Sound n → Running (movedOf n maximum in-flight trip variance timeout last)
+    → Sound (movedOf n maximum in-flight trip variance timeout last)
+moved-sound n maximum in-flight trip variance timeout last s w =
     let r = s .rules in
-    let w = s .running in
     record {
       rules = record {
         target-from = r .target-from;
@@ -119,59 +119,24 @@ with-window n maximum in-flight s h =
         increase-in = r .increase-in;
         gain-in = r .gain-in;
       };
-      running = record {
-        maximum-from = h;
-        trip-to = w .trip-to;
-        variance-to = w .variance-to;
-        timeout-in = w .timeout-in;
-        last-to = w .last-to;
-      };
+      running = w;
     }
+
+with-window : (n : Numbers) (maximum in-flight : ℕ) → Sound n → minimumOf n ≤ maximum → Sound (withWindow n maximum in-flight)
+with-window n maximum in-flight s h =
+    let w = s .running in
+    moved-sound n maximum in-flight _ _ _ _ s (record { maximum-from = h; trip-to = w .trip-to; variance-to = w .variance-to; timeout-in = w .timeout-in; last-to = w .last-to })
 
 with-trip : (n : Numbers) (trip variance timeout : ℕ) → Sound n → trip ≤ latest → variance ≤ latest → 1 ≤ timeout → timeout ≤ longestTimeout
     → Sound (withTrip n trip variance timeout)
 with-trip n trip variance timeout s t v o o′ =
-    let r = s .rules in
     let w = s .running in
-    record {
-      rules = record {
-        target-from = r .target-from;
-        minimum-timeout-in = r .minimum-timeout-in;
-        delay-window-in = r .delay-window-in;
-        largest-packet-in = r .largest-packet-in;
-        increase-in = r .increase-in;
-        gain-in = r .gain-in;
-      };
-      running = record {
-        maximum-from = w .maximum-from;
-        trip-to = t;
-        variance-to = v;
-        timeout-in = (o, o′);
-        last-to = w .last-to;
-      };
-    }
+    moved-sound n _ _ trip variance timeout _ s (record { maximum-from = w .maximum-from; trip-to = t; variance-to = v; timeout-in = (o, o′); last-to = w .last-to })
 
 pub accepted-sound : (n : Numbers) (clock : ℕ) → Sound n → clock ≤ latest → Sound (acceptedOf n clock)
 accepted-sound n clock s h =
-    let r = s .rules in
     let w = s .running in
-    record {
-      rules = record {
-        target-from = r .target-from;
-        minimum-timeout-in = r .minimum-timeout-in;
-        delay-window-in = r .delay-window-in;
-        largest-packet-in = r .largest-packet-in;
-        increase-in = r .increase-in;
-        gain-in = r .gain-in;
-      };
-      running = record {
-        maximum-from = w .maximum-from;
-        trip-to = w .trip-to;
-        variance-to = w .variance-to;
-        timeout-in = w .timeout-in;
-        last-to = h;
-      };
-    }
+    moved-sound n _ _ _ _ _ clock s (record { maximum-from = w .maximum-from; trip-to = w .trip-to; variance-to = w .variance-to; timeout-in = w .timeout-in; last-to = h })
 
 pub sent-sound : (n : Numbers) (len : ℕ) → Sound n → Sound (sentOf n len)
 sent-sound n len s = with-window n _ _ s (s .running .maximum-from)
