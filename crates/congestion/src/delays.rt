@@ -1,11 +1,11 @@
 // The kept delay samples, and the base delay that they give.
 use crate::settings::Settings;
 ghost use mathlib.Core.Path.{_≡_};
-ghost use mathlib.Core.Bool.{Bool};
+ghost use mathlib.Core.Bool.{Bool, cond};
 ghost use Prim.Native.Nat.{_+_, _-_, _≤_};
-ghost use lib.Dec.{leb};
+ghost use lib.Dec.{leb, eqb};
 ghost use lib.ListN.{take, drop, length};
-ghost use Rattle.congestion.specs.Delays.{listOf, expiredOf, notSmallerOf, dropFront, dropBack, noDelays, takenOf, baseOf, delaysSoundOf, movedDownOf, roomCountOf};
+ghost use Rattle.congestion.specs.Delays.{listOf, expiredOf, notSmallerOf, dropFront, dropBack, noDelays, takenOf, baseOf, delaysSoundOf, roomCountOf};
 
 // A delay, and the time at which it was heard of.
 #[repr(C)]
@@ -37,6 +37,13 @@ fn room(left: usize) -> usize
     ensures { λ r. ⌜ r ≡ roomCountOf left ⌝ }
 {
     if left == 1024 { 1023 } else { left }
+}
+
+// How many of the `left` samples from `first` on stand at the front already.
+fn standing(first: usize, left: usize) -> usize
+    ensures { λ r. ⌜ (r ≡ cond (eqb first 0) left 0) × (r ≤ left) ⌝ }
+{
+    if first == 0 { left } else { 0 }
 }
 
 impl Delays {
@@ -124,25 +131,8 @@ impl Delays {
         left
     }
 
-    // The `left` samples from `first` on, moved down to the front of the array.
-    fn moved_down(self, first: usize, left: usize) -> Delays
-        requires { ⌜ first + left ≤ 1024 ⌝ }
-        ensures { λ r. ⌜ r ≡ movedDownOf self first left ⌝ }
-    {
-        let mut next = self;
-        if first == 0 {
-            return next;
-        }
-        let mut i = 0;
-        while i < left {
-            let s = next.kept[first + i];
-            next.kept[i] = s;
-            i += 1;
-        }
-        next
-    }
-
-    // With the sample (delay, clock) taken. More than 1,024 kept are handed back as they came.
+    // With the sample (delay, clock) taken: what remains is moved down to the front, and the sample put
+    // behind it. More than 1,024 kept are handed back as they came.
     pub fn take(self, delay: u64, clock: u64, window: u64) -> Delays
         ensures { λ r. ⌜ r ≡ takenOf self delay clock window ⌝ }
     {
@@ -152,7 +142,13 @@ impl Delays {
         let first = self.expired_count(window, clock);
         let left = self.remaining_count(first, delay);
         let room = room(left);
-        let mut next = self.moved_down(first, left);
+        let mut next = self;
+        let mut i = standing(first, left);
+        while i < left {
+            let s = next.kept[first + i];
+            next.kept[i] = s;
+            i += 1;
+        }
         next.kept[room] = Sample { delay, at: clock };
         next.count = (room + 1) as u32;
         next

@@ -6,9 +6,11 @@ use mathlib.Core.List.{List, [], _∷_, _++_}
 use lib.Dec.{leb, ltb, eqb}
 use lib.ListN.{getD, set, take, drop}
 use Rattle.packet.specs.Sack.{bitOf}
+use Rattle.congestion.specs.declared.numbers.Numbers.{Numbers}
 use Rattle.sent.specs.declared.state.Packet.{Packet}
 use Rattle.sent.specs.declared.ack.Ack.{Ack}
 use Rattle.sent.specs.declared.ack.Heard.{Heard}
+use Rattle.sent.specs.declared.ack.Run.{Run}
 use Rattle.sent.specs.Loss.{isUnacked, lossMarkedOf, lossCountedOf}
 use Rattle.sent.specs.Tracker.{noPacket}
 use Rattle.sent.specs.Ack.{withAcked, creditedBy}
@@ -18,6 +20,10 @@ keepsOf a o = ltb (a .gone) o && leb o (a .count)
 
 abbrev pub placeOf : Ack → ℕ → ℕ
 placeOf a o = o - a .gone - 1
+
+-- Nothing heard yet.
+abbrev pub unheardOf : List Packet → Numbers → Heard
+unheardOf packets numbers = record { packets = packets; numbers = numbers; news = 0 }
 
 unfoldable pub newlyHeardOf : Ack → Heard → ℕ → Heard
 newlyHeardOf a h o =
@@ -38,12 +44,17 @@ allHeardOf a h (o ∷ os) = allHeardOf a (heardStep a h o) os
 abbrev pub heardAt : Ack → List ℕ → ℕ → ℕ → ℕ
 heardAt a mask bits j = cond (eqb j 0) (a .offset) (cond (leb j bits) (cond (bitOf mask (j - 1)) (a .offset + 1 + j) 0) (a .gone + (j - bits)))
 
-abbrev pub stepCount : Ack → ℕ → ℕ
-stepCount a bits = 1 + bits + (a .offset - 1 - a .gone)
-
 unfoldable pub stepsFrom : (ℕ → ℕ) → ℕ → ℕ → List ℕ
 stepsFrom f j zero = []
 stepsFrom f j (suc k) = f j ∷ stepsFrom f (j + 1) k
+
+-- What the steps of a run speak of.
+abbrev pub runOf : (ℕ → ℕ) → Run → List ℕ
+runOf f r = stepsFrom f (r .from) (r .count)
+
+-- Step j of the steps of a run and then those of another.
+abbrev pub stepOf : Run → Run → ℕ → ℕ
+stepOf r t j = cond (ltb j (r .count)) (r .from + j) (t .from + (j - r .count))
 
 -- Loss from place i on, with `live` packets kept: what stands before it is not looked at yet.
 unfoldable pub lossFromOf : Heard → ℕ → ℕ → Heard

@@ -17,7 +17,7 @@ ghost use lib.ListN.{length, take, drop};
 ghost use Rattle.sent.specs.Answers.{outcome, told};
 ghost use Rattle.sent.specs.Loss.{isNewlyLostOf, withLost};
 ghost use Rattle.sent.specs.Ack.{ackCheck, heardOf, withAcked, creditedBy, fromUnacked};
-ghost use Rattle.sent.specs.Hear.{keepsOf, heardAt, stepCount, allHeardOf, lossHeardOf};
+ghost use Rattle.sent.specs.Hear.{keepsOf, heardAt, stepOf, runOf, unheardOf, allHeardOf, lossHeardOf};
 ghost use Rattle.sent.specs.State.{stateSoundOf, ackStateOf, ackAnswer};
 
 // The checks of an ack, in their order: 11, 5, 6, 8, 12.
@@ -136,29 +136,61 @@ impl Ack {
         0
     }
 
-    // How many steps there are.
-    fn step_count(self, bits: usize) -> usize
-        requires { ⌜ (bits ≤ 2016) × (1 ≤ self .offset) ⌝ }
-        ensures { λ r. ⌜ r ≡ stepCount self bits ⌝ }
+    // How many earlier ones are kept.
+    fn earlier_count(self) -> usize
+        requires { ⌜ 1 ≤ self .offset ⌝ }
+        ensures { λ r. ⌜ r ≡ self .offset - 1 - self .gone ⌝ }
     {
         if self.offset - 1 <= self.gone {
-            return 1 + bits;
+            return 0;
         }
-        1 + bits + ((self.offset - 1 - self.gone) as usize)
+        (self.offset - 1 - self.gone) as usize
     }
 }
 
-// Every packet that the ack speaks of, in order. Acknowledged again: nothing.
-fn hear(start: Heard, ack: Ack, sack: &[u8]) -> Heard
-    requires { ⌜ (ack .gone ≤ ack .count) × (ack .count ≤ ack .gone + 512) × (ack .count ≤ 60000) × (1 ≤ ack .offset) × (ack .offset ≤ ack .count) × (length (now sack) ≤ 252) ⌝ }
-    ensures { λ r. ⌜ r ≡ allHeardOf ack start (heardOf (ack .count) (ack .offset) (now (sack .entry))) ⌝ }
+// A run of steps: `count` of them, from `from` on.
+struct Run {
+    from: usize,
+    count: usize,
+}
+
+impl Run {
+    // Step `j` of the steps of this run and then those of another.
+    fn step(self, then: Run, j: usize) -> usize
+        requires { ⌜ (j < self .count + then .count) × (self .from + self .count ≤ 65536) × (then .from + then .count ≤ 65536) ⌝ }
+        ensures { λ r. ⌜ (r ≡ stepOf self then j) × (r ≤ 65536) ⌝ }
+    {
+        if j < self.count {
+            return self.from + j;
+        }
+        then.from + (j - self.count)
+    }
+}
+
+// Every packet that the steps of one run, then those of another, speak of. Acknowledged again:
+// nothing.
+fn hear_runs(
+    packets: [Packet; 512],
+    numbers: Numbers,
+    ack: Ack,
+    sack: &[u8],
+    bits: usize,
+    run: Run,
+    then: Run,
+) -> Heard
+    requires { ⌜ (ack .gone ≤ ack .count) × (ack .count ≤ ack .gone + 512) × (ack .count ≤ 60000) × (ack .offset ≤ ack .count) × (bits ≤ 2016) × (run .from + run .count ≤ 65536) × (then .from + then .count ≤ 65536) ⌝ }
+    ensures { λ r. ⌜ r ≡ allHeardOf ack (unheardOf packets numbers) (runOf (heardAt ack (now (sack .entry)) bits) run ++ runOf (heardAt ack (now (sack .entry)) bits) then) ⌝ }
 {
-    let bits = sack::bit_count(sack);
-    let steps = ack.step_count(bits);
-    let mut heard = start;
+    let steps = run.count + then.count;
+    let mut heard = Heard {
+        packets,
+        numbers,
+        news: 0,
+    };
     let mut j: usize = 0;
     while j < steps {
-        let offset = ack.heard_at(sack, bits, j);
+        let step = run.step(then, j);
+        let offset = ack.heard_at(sack, bits, step);
         j += 1;
         if !ack.keeps(offset) {
             continue;
@@ -174,6 +206,23 @@ fn hear(start: Heard, ack: Ack, sack: &[u8]) -> Heard
         heard.news = 1;
     }
     heard
+}
+
+// Every packet that the ack speaks of: those that it names, then the earlier ones.
+fn hear(packets: [Packet; 512], numbers: Numbers, ack: Ack, sack: &[u8]) -> Heard
+    requires { ⌜ (ack .gone ≤ ack .count) × (ack .count ≤ ack .gone + 512) × (ack .count ≤ 60000) × (1 ≤ ack .offset) × (ack .offset ≤ ack .count) × (length (now sack) ≤ 252) ⌝ }
+    ensures { λ r. ⌜ r ≡ allHeardOf ack (unheardOf packets numbers) (heardOf (ack .count) (ack .offset) (now (sack .entry))) ⌝ }
+{
+    let bits = sack::bit_count(sack);
+    let named = Run {
+        from: 0,
+        count: 1 + bits,
+    };
+    let earlier = Run {
+        from: 1 + bits,
+        count: ack.earlier_count(),
+    };
+    hear_runs(packets, numbers, ack, sack, bits, named, earlier)
 }
 
 // Loss, after the acknowledgements: each packet that is newly lost is marked and counted once. From
@@ -253,18 +302,12 @@ impl SentPackets {
             delay,
             clock,
         };
-        let start = Heard {
-            packets,
-            numbers,
-            news: 0,
-        };
-        let heard = hear(start, ack, sack);
+        let marked = lose(hear(packets, numbers, ack, sack), live);
         let mut next = self;
-        if heard.news == 0 {
+        if marked.news == 0 {
             next.numbers = numbers.accepted(clock);
             return next;
         }
-        let marked = lose(heard, live);
         let marked_packets = marked.packets;
         let marked_numbers = marked.numbers;
         let run = acked_run(marked_packets, live);

@@ -14,7 +14,7 @@ ghost use Prim.Native.Nat.{_≤_, _<_, _-_, _+_};
 ghost use Rattle.sent.specs.Answers.{outcome, told};
 ghost use Rattle.sent.specs.Tracker.{clockedOf};
 ghost use Rattle.sent.specs.Transmit.{transmitCheck, resentOf, recordedOf, withResent};
-ghost use Rattle.sent.specs.State.{stateSoundOf, trackerOf, writtenOf, transmitAnswer};
+ghost use Rattle.sent.specs.State.{stateSoundOf, whenStateSound, trackerOf, writtenOf, transmitAnswer};
 
 // The checks of a transmit, in their order: 11, 12, and of a first one 15, 13, 14.
 fn transmit_check(
@@ -100,6 +100,17 @@ impl SentPackets {
         next
     }
 
+    // What the soundness test and then the checks say of a transmit.
+    fn may_transmit(self, offset: u32, len: u32, clock: u64) -> Outcome
+        ensures { λ r. ⌜ outcome r ≡ whenStateSound self (transmitCheck (self .numbers) (self .count) (self .live) offset len clock) ⌝ }
+    {
+        if !self.sound() {
+            return Outcome::Refused(Reason::NotSound);
+        }
+        let numbers = self.numbers;
+        transmit_check(numbers, self.count, self.live, offset, len, clock)
+    }
+
     // A packet goes out. Up to the last number sent it is a retransmission, whatever its length.
     // Refused with 19, 11, 12, and a first transmit with 15, 13, 14, in this order.
     pub fn on_transmit(
@@ -112,15 +123,8 @@ impl SentPackets {
     ) -> Tracked
         ensures { λ r. ⌜ told r ≡ transmitAnswer self number «packet_type» tag len clock ⌝ }
     {
-        if !self.sound() {
-            return Tracked {
-                answer: Outcome::Refused(Reason::NotSound),
-                state: self,
-            };
-        }
-        let numbers = self.numbers;
         let offset = number.offset_from(SeqNum(self.initial)).0 as u32;
-        let check = transmit_check(numbers, self.count, self.live, offset, len, clock);
+        let check = self.may_transmit(offset, len, clock);
         if let Outcome::Refused(reason) = check {
             return Tracked {
                 answer: Outcome::Refused(reason),

@@ -7,7 +7,7 @@ use native.Mathlib.Nat.{add-comm}
 use native.Mathlib.Numerals.{add-one}
 use native.Mathlib.Omega.{arith}
 use lib.Dec.{T, leb, ltb, eqb}
-use lib.ListN.{length, take, drop, getD, set, length-take, length-drop, length-append, drop-of-length-le}
+use lib.ListN.{length, take, drop, getD, set, length-take, length-drop, length-append, drop-of-length-le, take-append-drop}
 use lib.Seq.{take-nil, take-suc, drop-cons, take-append-le, set-at, set-split, take-all, length-take-le, drop-drop, drop-append-add, getD-append-add, getD-drop, getD-take, take-take}
 use borrow.Author.Tests.{eqb-true, eqb-false, le-ltb, lt-ltb, le-leb, lt-leb}
 use Rattle.congestion.specs.declared.delays.Sample.{Sample}
@@ -89,6 +89,19 @@ moved-one kept first i d h =
     ∙ set-at (take i s) (getD kept i d) (drop (suc i) kept) (getD s i d) i len
     ∙ sym (append-assoc (take i s) (getD s i d ∷ []) (drop (suc i) kept))
     ∙ ap (λ (l : List Sample). l ++ drop (suc i) kept) (sym (take-suc s i d inside))
+
+-- from the front on, all stand already
+pub moved-none : (d : Delays) (first left : ℕ) → movedDownOf d first (cond (eqb first 0) left 0) ≡ d
+moved-none d first left = by-test (eqb first 0) refl
+  where
+    by-test : (t : Bool) → eqb first 0 ≡ t → movedDownOf d first (cond t left 0) ≡ d
+    by-test true e =
+        ap (λ (k : ℕ). movedDownOf d k left) (eqb-true first 0 e)
+        ∙ ap (λ (l : List Sample). with-list l) (take-append-drop left (d .kept))
+      where
+        with-list : List Sample → Delays
+        with-list l = record { kept = l; count = d .count }
+    by-test false e = refl
 
 -- ---- room for one more
 

@@ -7,15 +7,16 @@ use native.Mathlib.Omega.{arith}
 use lib.Dec.{leb, ltb, eqb}
 use lib.ListN.{length, getD}
 use Rattle.congestion.specs.Laws.Numbers.{both}
-use borrow.Author.Tests.{ltb-true, le-leb, lt-leb, le-ltb, ne-eqb, leb-true, leb-false}
+use borrow.Author.Tests.{ltb-true, lt-ltb, le-leb, lt-leb, le-ltb, ne-eqb, leb-true, leb-false}
 use Rattle.packet.specs.Sack.{bitOf}
 use Rattle.sent.specs.declared.state.Packet.{Packet}
 use Rattle.sent.specs.declared.ack.Ack.{Ack}
 use Rattle.sent.specs.declared.ack.Heard.{Heard}
+use Rattle.sent.specs.declared.ack.Run.{Run}
 use Rattle.sent.specs.Loss.{isUnacked}
 use Rattle.sent.specs.Tracker.{noPacket}
 use Rattle.sent.specs.Ack.{sackedFrom, offsetsFrom, heardOf}
-use Rattle.sent.specs.Hear.{keepsOf, placeOf, newlyHeardOf, heardStep, allHeardOf, heardAt, stepCount, stepsFrom}
+use Rattle.sent.specs.Hear.{keepsOf, placeOf, newlyHeardOf, heardStep, allHeardOf, heardAt, stepsFrom, runOf, stepOf}
 
 pub steps-append : (f : ℕ → ℕ) (m k j : ℕ) → stepsFrom f j (m + k) ≡ stepsFrom f j m ++ stepsFrom f (j + m) k
 unfolding stepsFrom
@@ -27,6 +28,38 @@ steps-append f (suc m) k j =
     let e : suc m + k ≡ suc (m + k) = omega arith in
     let g : j + 1 + m ≡ j + suc m = omega arith in
     ap (stepsFrom f j) e ∙ ap (λ (l : List ℕ). f j ∷ l) (steps-append f m k (j + 1)) ∙ ap (λ (n : ℕ). f j ∷ (stepsFrom f (j + 1) m ++ stepsFrom f n k)) g
+
+-- two runs of one length that speak of the same
+steps-same : (f g : ℕ → ℕ) (k i j : ℕ) → ((n : ℕ) → n < k → g (i + n) ≡ f (j + n)) → stepsFrom g i k ≡ stepsFrom f j k
+unfolding stepsFrom
+steps-same f g zero i j e = refl
+steps-same f g (suc k) i j e =
+    let here : i ≡ i + 0 = omega arith in
+    let there : j + 0 ≡ j = omega arith in
+    ap₂ (λ (x : ℕ) (l : List ℕ). x ∷ l) (ap g here ∙ e 0 (omega arith) ∙ ap f there) (steps-same f g k (i + 1) (j + 1) (λ n l. next n l))
+  where
+    next : (n : ℕ) → n < k → g (i + 1 + n) ≡ f (j + 1 + n)
+    next n l =
+        let one : i + 1 + n ≡ i + (n + 1) = omega arith in
+        let two : j + (n + 1) ≡ j + 1 + n = omega arith in
+        ap g one ∙ e (n + 1) (omega arith) ∙ ap f two
+
+-- the steps of a run and then those of another, counted through
+pub two-runs : (f : ℕ → ℕ) (r t : Run) → stepsFrom (λ j. f (stepOf r t j)) 0 (r .count + t .count) ≡ runOf f r ++ runOf f t
+two-runs f r t =
+    let g : ℕ → ℕ = λ j. f (stepOf r t j) in
+    steps-append g (r .count) (t .count) 0 ∙ ap₂ (λ (x y : List ℕ). x ++ y) (steps-same f g (r .count) 0 (r .from) first) (steps-same f g (t .count) (0 + r .count) (t .from) second)
+  where
+    first : (n : ℕ) → n < r .count → f (stepOf r t (0 + n)) ≡ f (r .from + n)
+    first n l =
+        let e : 0 + n ≡ n = omega arith in
+        ap (λ (j : ℕ). f (stepOf r t j)) e ∙ ap (λ (b : Bool). f (cond b (r .from + n) (t .from + (n - r .count)))) (lt-ltb n (r .count) l)
+
+    second : (n : ℕ) → n < t .count → f (stepOf r t (0 + r .count + n)) ≡ f (t .from + n)
+    second n l =
+        let at = 0 + r .count + n in
+        let e : t .from + (at - r .count) ≡ t .from + n = omega arith in
+        ap (λ (b : Bool). f (cond b (r .from + at) (t .from + (at - r .count)))) (le-ltb at (r .count) (omega arith)) ∙ ap f e
 
 offsets-append : (m k o : ℕ) → offsetsFrom o (m + k) ≡ offsetsFrom o m ++ offsetsFrom (o + m) k
 unfolding offsetsFrom
@@ -172,39 +205,40 @@ module _ (a : Ack) where
 
     -- ---- all of it
 
-    pub steps-heard : (h : Heard) (bits : ℕ) → bits ≡ 8 * length mask → 1 ≤ a .offset
-        → allHeardOf a h (stepsFrom (heardAt a mask bits) 0 (stepCount a bits)) ≡ allHeardOf a h (heardOf (a .count) (a .offset) mask)
+    pub runs-heard : (h : Heard) (bits : ℕ) → bits ≡ 8 * length mask → 1 ≤ a .offset
+        → allHeardOf a h (runOf (heardAt a mask bits) (record { from = 0; count = 1 + bits }) ++ runOf (heardAt a mask bits) (record { from = 1 + bits; count = a .offset - 1 - a .gone }))
+        ≡ allHeardOf a h (heardOf (a .count) (a .offset) mask)
     unfolding stepsFrom allHeardOf heardOf
-    steps-heard h bits e k =
+    runs-heard h bits e k =
         let f = heardAt a mask bits in
         let rest = a .offset - 1 - a .gone in
-        let one : stepCount a bits ≡ suc (bits + rest) = omega arith in
-        let at-end : 0 + 1 + bits ≡ bits + 1 + 0 = omega arith in
+        let one : 1 + bits ≡ suc bits = omega arith in
+        let at-end : 1 + bits ≡ bits + 1 + 0 = omega arith in
         let first-early : a .gone + 1 + 0 ≡ a .gone + 1 = omega arith in
         let g = heardStep a h (a .offset) in
         let sack : stepsFrom f (0 + 1) bits ≡ stepsFrom bitAt 0 bits = bit-steps bits bits 0 (omega arith) in
-        let early : stepsFrom f (0 + 1 + bits) rest ≡ offsetsFrom (a .gone + 1) rest =
+        let early : stepsFrom f (1 + bits) rest ≡ offsetsFrom (a .gone + 1) rest =
         ap (λ (n : ℕ). stepsFrom f n rest) at-end ∙ early-steps bits rest 0 ∙ ap (λ (n : ℕ). offsetsFrom n rest) first-early in
-        ap (λ (n : ℕ). allHeardOf a h (stepsFrom f 0 n)) one
-        ∙ ap (allHeardOf a g) (steps-append f bits rest (0 + 1) ∙ ap₂ (λ (x y : List ℕ). x ++ y) sack early)
+        ap (λ (n : ℕ). allHeardOf a h (stepsFrom f 0 n ++ stepsFrom f (1 + bits) rest)) one
+        ∙ ap (allHeardOf a g) (ap₂ (λ (x y : List ℕ). x ++ y) sack early)
         ∙ all-append (stepsFrom bitAt 0 bits) (offsetsFrom (a .gone + 1) rest) g
         ∙ earlier-heard (allHeardOf a g (stepsFrom bitAt 0 bits)) k
         ∙ ap (λ (x : Heard). allHeardOf a x (offsetsFrom 1 (a .offset - 1))) (bits-heard bits 0 g)
         ∙ sym (all-append (sackedFrom mask (a .count) (a .offset) 0 bits) (offsetsFrom 1 (a .offset - 1)) g)
         ∙ ap (λ (n : ℕ). allHeardOf a g (sackedFrom mask (a .count) (a .offset) 0 n ++ offsetsFrom 1 (a .offset - 1))) e
 
-    -- one step of the walk
-    pub next-step : (bits : ℕ) (h g : Heard) (j k o : ℕ) → j < k → o ≡ heardAt a mask bits j → heardStep a h o ≡ g
-        → allHeardOf a h (stepsFrom (heardAt a mask bits) j (k - j)) ≡ allHeardOf a g (stepsFrom (heardAt a mask bits) (j + 1) (k - (j + 1)))
-    unfolding stepsFrom allHeardOf
-    next-step bits h g j k o l e q =
-        let one : k - j ≡ suc (k - (j + 1)) = omega arith in
-        ap (λ (n : ℕ). allHeardOf a h (stepsFrom (heardAt a mask bits) j n)) one
-        ∙ ap (λ (x : Heard). allHeardOf a x (stepsFrom (heardAt a mask bits) (j + 1) (k - (j + 1)))) (sym (ap (heardStep a h) e) ∙ q)
+  -- one step of a walk
+  pub next-step : (f : ℕ → ℕ) (h g : Heard) (j k o : ℕ) → j < k → o ≡ f j → heardStep a h o ≡ g
+      → allHeardOf a h (stepsFrom f j (k - j)) ≡ allHeardOf a g (stepsFrom f (j + 1) (k - (j + 1)))
+  unfolding stepsFrom allHeardOf
+  next-step f h g j k o l e q =
+      let one : k - j ≡ suc (k - (j + 1)) = omega arith in
+      ap (λ (n : ℕ). allHeardOf a h (stepsFrom f j n)) one
+      ∙ ap (λ (x : Heard). allHeardOf a x (stepsFrom f (j + 1) (k - (j + 1)))) (sym (ap (heardStep a h) e) ∙ q)
 
-    pub no-step : (bits : ℕ) (h : Heard) (j : ℕ) → allHeardOf a h (stepsFrom (heardAt a mask bits) j 0) ≡ h
-    unfolding stepsFrom allHeardOf
-    no-step bits h j = refl
+  pub no-step : (f : ℕ → ℕ) (h : Heard) (j : ℕ) → allHeardOf a h (stepsFrom f j 0) ≡ h
+  unfolding stepsFrom allHeardOf
+  no-step f h j = refl
 
   pub kept-place : (o : ℕ) → keepsOf a o ≡ true → (a .gone < o) × (o ≤ a .count)
   kept-place o e = let p = both (ltb (a .gone) o) (leb o (a .count)) e in (ltb-true _ _ (p .0), leb-true _ _ (p .1))

@@ -1,5 +1,5 @@
 -- A transmit in the state: what is stored where.
-use mathlib.Core.Path.{_≡_, sym, ap, ap₂, _∙_}
+use mathlib.Core.Path.{_≡_, refl, sym, ap, ap₂, _∙_}
 use mathlib.Core.Bool.{Bool, true, false, _&&_, cond}
 use mathlib.Core.List.{List}
 use Prim.Native.Nat.{ℕ, _+_, _-_, _≤_, _<_}
@@ -17,9 +17,9 @@ use Rattle.sent.specs.declared.state.Packet.{Packet}
 use Rattle.sent.specs.declared.state.SentPackets.{SentPackets}
 use Rattle.sent.specs.Tracker.{Tracker, places, mostSent, offsetIn, clockAnswer, goneOf, isKept, noPacket, packetAt, withPacketAt, clockedOf}
 use Rattle.sent.specs.Transmit.{mayTransmit, roomAnswer, transmitCheck, withResent, resentOf, firstSent, recordedOf, sentOf, transmitOf}
-use Rattle.sent.specs.State.{trackerOf, writtenOf, stateSoundOf, answeredOf, transmitAnswer}
+use Rattle.sent.specs.State.{trackerOf, writtenOf, stateSoundOf, answeredOf, whenStateSound, transmitAnswer}
 use Rattle.sent.specs.Laws.Kept.{written-kept, written-at, written-behind}
-use Rattle.sent.specs.Laws.Sound.{state-counts, sound-answered}
+use Rattle.sent.specs.Laws.Sound.{state-counts, unsound-refused, sound-answered}
 use Rattle.sent.specs.Laws.Checks.{then-done, held, not-held}
 
 -- the state with its numbers and packets replaced
@@ -134,3 +134,15 @@ module _ (s : SentPackets) (full : length (s .packets) ≡ places) (e : stateSou
       ∙ sym (accepted-is d
       ∙ ap (λ (t : Bool). (done tt, writtenOf s (clockedOf (cond t (resentOf (trackerOf s) (offsetIn (trackerOf s) number)) (recordedOf (trackerOf s) (firstSent type tag len clock))) clock)))
       (lt-leb (offsetIn (trackerOf s) number) (s .count) h))
+
+-- Refused by the soundness test or by a check: the state stays.
+pub transmit-stopped : (s : SentPackets) → length (s .packets) ≡ places → (number : SeqNum) (type : PacketType) (tag len clock n : ℕ)
+    → whenStateSound s (transmitCheck (s .numbers) (s .count) (s .live) (offsetIn (trackerOf s) number) len clock) ≡ refused n
+    → (refused n, s) ≡ transmitAnswer s number type tag len clock
+unfolding transmitAnswer
+transmit-stopped s full number type tag len clock n h = by-test (stateSoundOf s) refl h
+  where
+    by-test : (t : Bool) → stateSoundOf s ≡ t → cond t (transmitCheck (s .numbers) (s .count) (s .live) (offsetIn (trackerOf s) number) len clock) (refused 19) ≡ refused n
+        → (refused n, s) ≡ transmitAnswer s number type tag len clock
+    by-test true e h = transmit-refused s full e number type tag len clock _ refl n h
+    by-test false e h = sym (ap (λ (a : Answer (Unit {0})). (a, s)) h) ∙ sym (ap (answeredOf s) (unsound-refused s _ e))

@@ -45,16 +45,18 @@ hear-requires : tie.Need-hear-requires
 hear-requires c κs = let q = counts (c .before .before .before .before .before .before .before) in
     (omega (arith, q), omega (arith, q), q .2, c .before .before .before .before .before .before .before .pre .1, c .before .before .before .before .before .before .before .pre .2, c .before .before .before .before .before .before .before .pre .3)
 
+lose-requires : tie.Need-lose-requires
+lose-requires c κs = counts (c .before .before .before .before .before .before .before .before) .0
+
 accepted-requires : tie.Need-accepted-requires
 accepted-requires c κs = search needs
 
 returns : tie.Need-returns
-returns c = let a = c .before .before .before .before .before .before .before .before .before .before .before .args in
+unfolding lossHeardOf
+returns c = let start = c .before .before .before .before .before .before .before .before .before .before .before .before in
+    let a = start .args in
     ap (λ (n : Numbers). stateWith (a .self) (a .self .count) (a .self .live) n (a .self .packets)) (c .accepted .ensures)
-    ∙ quiet (c .before .before .before .before .before .before .before .before .before .before .before .args .self) (full (c .before .before .before .before .before .before .before .before .before .before .before)) (c .before .before .before .before .before .before .before .before .before .before .before .pre .0) (c .before .before .before .before .before .before .before .before .before .before .before .args .offset) (now (c .before .before .before .before .before .before .before .before .before .before .before .args .sack)) (c .before .before .before .before .before .before .before .before .before .before .before .args .delay) (c .before .before .before .before .before .before .before .before .before .before .before .args .clock) (c .before .before .before .before .before .before .take .result) (c .before .before .before .before .base .result) (c .before .before .before .before .before .before .take .ensures) (c .before .before .before .before .base .ensures) (sym (ap (λ (h : Heard). h .news) (c .before .before .before .hear .ensures)) ∙ c .before .if1 .taken)
-
-lose-requires : tie.Need-lose-requires
-lose-requires c κs = counts (c .before .before .before .before .before .before .before .before .before .before) .0
+    ∙ quiet (a .self) (full start) (start .pre .0) (a .offset) (now (a .sack)) (a .delay) (a .clock) (c .before .before .before .before .before .before .before .take .result) (c .before .before .before .before .before .base .result) (c .before .before .before .before .before .before .before .take .ensures) (c .before .before .before .before .before .base .ensures) (sym (ap (λ (h : Heard). h .news) (c .before .before .before .lose .ensures ∙ ap (λ (h : Heard). lossHeardOf h (a .self .live)) (c .before .before .before .before .hear .ensures))) ∙ c .before .if1 .taken)
 
 acked-run-requires : tie.Need-acked-run-requires
 acked-run-requires c κs = counts (c .before .before .before .before .before .before .before .before .before .before .before .before .before) .0
@@ -72,16 +74,21 @@ accepted-requires-2 : tie.Need-accepted-requires-2
 accepted-requires-2 c κs = search needs
 
 returns-2 : tie.Need-returns-2
-returns-2 c = let a = c .before .before .before .before .before .before .before .before .before .before .before .before .before .before .before .before .args in
+unfolding lossHeardOf
+returns-2 c = let start = c .before .before .before .before .before .before .before .before .before .before .before .before .before .before .before .before in
+    let a = start .args in
     let live = a .self .live in
-    let same : c .before .before .before .before .before .lose .result ≡ lossHeardOf (heardOn (c .before .before .before .before .before .before .before .before .before .before .before .before .before .before .before .before .args .self) (full (c .before .before .before .before .before .before .before .before .before .before .before .before .before .before .before .before)) (c .before .before .before .before .before .before .before .before .before .before .before .before .before .before .before .before .pre .0) (c .before .before .before .before .before .before .before .before .before .before .before .before .before .before .before .before .args .offset) (now (c .before .before .before .before .before .before .before .before .before .before .before .before .before .before .before .before .args .sack)) (c .before .before .before .before .before .before .before .before .before .before .before .before .before .before .before .before .args .delay) (c .before .before .before .before .before .before .before .before .before .before .before .before .before .before .before .before .args .clock) (c .before .before .before .before .before .before .before .before .before .before .before .take .result) (c .before .before .before .before .before .before .before .before .before .base .result) (c .before .before .before .before .before .before .before .before .before .before .before .take .ensures) (c .before .before .before .before .before .before .before .before .before .base .ensures)) live = c .before .before .before .before .before .lose .ensures ∙ ap (λ (h : Heard). lossHeardOf h live) (c .before .before .before .before .before .before .before .before .hear .ensures) in
+    let taken = c .before .before .before .before .before .before .before .before .before .before .before .take in
+    let base = c .before .before .before .before .before .before .before .before .before .base in
+    let run = c .before .before .acked-run in
+    let same : c .before .before .before .before .before .before .before .lose .result ≡ lossHeardOf (heardOn (a .self) (full start) (start .pre .0) (a .offset) (now (a .sack)) (a .delay) (a .clock) (taken .result) (base .result) (taken .ensures) (base .ensures)) live = c .before .before .before .before .before .before .before .lose .ensures ∙ ap (λ (h : Heard). lossHeardOf h live) (c .before .before .before .before .before .before .before .before .hear .ensures) in
     let packets = ap (λ (h : Heard). h .packets) same in
-    left-in (a .self) (live - c .before .before .acked-run .result) (c .before .before .before .before .before .before .before .before .before .before .before .take .result) (c .before .moved-down .result) (c .accepted2 .result) _ (c .accepted2 .ensures ∙ ap (λ (h : Heard). acceptedOf (h .numbers) (a .clock)) same)
-    ∙ loud (c .before .before .before .before .before .before .before .before .before .before .before .before .before .before .before .before .args .self) (full (c .before .before .before .before .before .before .before .before .before .before .before .before .before .before .before .before)) (c .before .before .before .before .before .before .before .before .before .before .before .before .before .before .before .before .pre .0) (c .before .before .before .before .before .before .before .before .before .before .before .before .before .before .before .before .args .offset) (now (c .before .before .before .before .before .before .before .before .before .before .before .before .before .before .before .before .args .sack)) (c .before .before .before .before .before .before .before .before .before .before .before .before .before .before .before .before .args .delay) (c .before .before .before .before .before .before .before .before .before .before .before .before .before .before .before .before .args .clock) (c .before .before .before .before .before .before .before .before .before .before .before .take .result) (c .before .before .before .before .before .before .before .before .before .base .result) (c .before .before .before .before .before .before .before .before .before .before .before .take .ensures) (c .before .before .before .before .before .before .before .before .before .base .ensures)
-    (λ z. c .before .before .before .before .before .before .if1 .left (ap (λ (h : Heard). h .news) (c .before .before .before .before .before .before .before .before .hear .ensures) ∙ z))
-    (c .before .before .acked-run .result) (c .before .moved-down .result) (c .before .before .acked-run .ensures .1)
-    (ap (λ (l : List Packet). fromUnacked (take live l)) (sym packets) ∙ c .before .before .acked-run .ensures .0 ∙ ap (λ (l : List Packet). drop (c .before .before .acked-run .result) (take live l)) packets)
-    (c .before .moved-down .ensures ∙ ap (λ (l : List Packet). take (live - c .before .before .acked-run .result) (drop (c .before .before .acked-run .result) l) ++ drop (live - c .before .before .acked-run .result) l) packets)
+    left-in (a .self) (live - run .result) (taken .result) (c .before .moved-down .result) (c .accepted2 .result) _ (c .accepted2 .ensures ∙ ap (λ (h : Heard). acceptedOf (h .numbers) (a .clock)) same)
+    ∙ loud (a .self) (full start) (start .pre .0) (a .offset) (now (a .sack)) (a .delay) (a .clock) (taken .result) (base .result) (taken .ensures) (base .ensures)
+    (λ z. c .before .before .before .before .before .if1 .left (ap (λ (h : Heard). h .news) same ∙ z))
+    (run .result) (c .before .moved-down .result) (run .ensures .1)
+    (ap (λ (l : List Packet). fromUnacked (take live l)) (sym packets) ∙ run .ensures .0 ∙ ap (λ (l : List Packet). drop (run .result) (take live l)) packets)
+    (c .before .moved-down .ensures ∙ ap (λ (l : List Packet). take (live - run .result) (drop (run .result) l) ++ drop (live - run .result) l) packets)
 
 pub acknowledged-spec : {M : Type 1} → statement M
 acknowledged-spec =
@@ -91,9 +98,9 @@ acknowledged-spec =
     sub-moved-down
     base-requires
     hear-requires
+    lose-requires
     accepted-requires
     returns
-    lose-requires
     acked-run-requires
     sub-moved-down-2
     moved-down-requires
