@@ -7,6 +7,7 @@ use Rattle.common.specs.Promise.{Promise, by-value}
 use Rattle.recv.specs.declared.Count.{Count}
 use Rattle.recv.specs.declared.Taken.{Taken}
 use Rattle.recv.specs.declared.Written.{Written}
+use Rattle.recv.specs.declared.Writing.{Writing}
 use Rattle.recv.proofs.ReceiveBuffer.new.Reads as new
 use Rattle.recv.proofs.ReceiveBuffer.write.Reads as write
 use Rattle.recv.proofs.ReceiveBuffer.read.Reads as read
@@ -20,6 +21,8 @@ use Rattle.recv.proofs.ReceiveBuffer.count.Reads as count
 use Rattle.recv.proofs.ReceiveBuffer.ready.Reads as ready
 use Rattle.recv.proofs.ReceiveBuffer.waiting.Reads as waiting
 use Rattle.recv.proofs.ReceiveBuffer.waiting_bytes.Reads as waiting-bytes
+use Rattle.recv.proofs.write_in.Reads as write-in
+use Rattle.recv.proofs.read_in.Reads as read-in
 
 new-promise : Promise new.Pre new.Post (λ κs r s. r)
 new-promise = by-value _ (λ κs a. tt) (λ κs a r s p. p)
@@ -59,3 +62,9 @@ waiting-promise = by-value _ (λ κs a. tt) (λ κs a r s p. p)
 
 waiting-bytes-promise : Promise waiting-bytes.Pre waiting-bytes.Post (λ κs r s. r)
 waiting-bytes-promise = by-value _ (λ κs a. tt) (λ κs a r s p. p)
+
+write-in-promise : Promise {W = Writing × ℕ × ℕ × ℕ × List ℕ × List ℕ} write-in.Pre write-in.Post (λ κs r s. (r, now (s .1 .1 .0), now (s .1 .1 .1 .0), now (s .1 .1 .1 .1 .0), now (s .1 .1 .1 .1 .1 .0), now (s .1 .1 .1 .1 .1 .1 .0)))
+write-in-promise = by-value _ (λ κs a. tt) (λ κs a r s p. λ i. (p .0 i .answer, p .0 i .state .count, p .0 i .state .ready, p .0 i .state .span, p .0 i .state .waiting, p .1 i))
+
+read-in-promise : Promise {W = Count × ℕ × List ℕ × List ℕ} read-in.Pre read-in.Post (λ κs r s. (r, now (s .1 .1 .1 .0), now (s .1 .1 .1 .1 .1 .1 .0), now (s .1 .1 .1 .1 .1 .1 .1 .0)))
+read-in-promise = by-value _ (λ κs a. tt) (λ κs a r s p. λ i. (p .0 i .answer, p .0 i .state .ready, p .1 i, p .2 i))

@@ -7,6 +7,7 @@ pub mod Steps
 pub mod Answers
 pub mod Payloads
 pub mod Stored
+pub mod Lent
 pub mod Reading
 pub mod Sack
 pub mod Numbers

@@ -3,6 +3,7 @@ pub mod Table
 pub mod State
 pub mod Receiver
 pub mod Calls
+pub mod Lent
 pub mod Runs
 pub mod Numbers
 pub mod Marked

@@ -10,6 +10,7 @@ ghost use mathlib.Core.Path.{_≡_};
 ghost use Prim.Native.Nat.{_≤_, _<_, min};
 ghost use lib.ListN.{length, take};
 ghost use Rattle.recv.specs.Calls.{receiverOf, over, stateOf, roomOf, answerOf, afterWrite, writtenOf, writtenRoomOf, takenOf, takenRoomOf, takenOutOf, ackedOf, ackedRoomOf};
+ghost use Rattle.recv.specs.Lent.{Held, whole, stateIn, wholeWritten, wholeTaken};
 ghost use Rattle.recv.specs.Receiver.{readOf};
 ghost use Rattle.recv.specs.Laws.Steps.{Placeable, placedOf};
 ghost use Rattle.recv.specs.Laws.Reading.{Takes};
@@ -96,10 +97,41 @@ pub enum Number {
     Refused(Refusal),
 }
 
-impl ReceiveBuffer {
+// A receiver apart from its table, which is lent beside it.
+struct Counts {
+    initial: SeqNum,
+    length: u32,
+    count: u32,
+    ready: u32,
+    span: u32,
+}
+
+// The answer of a write in place, and beside it the counts.
+struct StepWrite {
+    answer: Writing,
+    counts: Counts,
+}
+
+// The answer of a read in place, and beside it how many bytes are ready: nothing else changes.
+struct StepRead {
+    answer: Count,
+    ready: u32,
+}
+
+// What the calls do, with the table lent: nothing of it is copied, and only what changes is written.
+impl Counts {
+    // How many bytes wait. The functions below are handed this, so that the table is passed over once.
+    fn held(self, waiting: &[u32; 256]) -> u64
+        requires { ⌜ length (now waiting) ≡ 256 ⌝ }
+        ensures { λ r. ⌜ Held (whole self (now (waiting .entry))) r ⌝ }
+    {
+        waiting::bytes_in(waiting, smaller(self.span as usize, 256))
+    }
+
     // Whether the state passes the soundness test.
-    fn is_sound(self) -> bool
-        ensures { λ r. ⌜ r ≡ soundOf self ⌝ }
+    fn is_sound(self, waiting: &[u32; 256], held: u64) -> bool
+        requires { ⌜ (length (now waiting) ≡ 256) × (Held (whole self (now waiting)) held) ⌝ }
+        ensures { λ r. ⌜ r ≡ soundOf (whole self (now (waiting .entry))) ⌝ }
     {
         let length = self.length;
         let count = self.count;
@@ -124,15 +156,239 @@ impl ReceiveBuffer {
         }
         let places = span as usize;
         let last = places - 1;
-        if self.waiting[0] != 0 {
+        if waiting[0] != 0 {
             return false;
         }
-        if self.waiting[last] == 0 {
+        if waiting[last] == 0 {
             return false;
         }
-        let held = waiting::bytes_in(&self.waiting, places);
         (self.ready as u64) + held <= length as u64
     }
+
+    // Whether `offset` is at most the count, or waits.
+    fn is_there(self, waiting: &[u32; 256], offset: u32) -> bool
+        requires { ⌜ self .span ≤ 256 ⌝ }
+        ensures { λ r. ⌜ r ≡ thereOf (self .count) (tableOf (whole self (now (waiting .entry)))) offset ⌝ }
+    {
+        if offset <= self.count {
+            return true;
+        }
+        waiting::waits_at(waiting, self.span as usize, self.count, offset)
+    }
+
+    // What a write of `n` bytes under `number` answers, over a buffer of `size` bytes.
+    fn writing(
+        self,
+        waiting: &[u32; 256],
+        held: u64,
+        size: usize,
+        number: SeqNum,
+        n: usize,
+    ) -> Writing
+        requires { ⌜ (length (now waiting) ≡ 256) × (Held (whole self (now waiting)) held) ⌝ }
+        ensures { λ r. ⌜ r ≡ answerOf (whole self (now (waiting .entry))) size number n ⌝ }
+    {
+        if !self.is_sound(waiting, held) {
+            return Writing::Refused(Refusal::NotSound);
+        }
+        if size != self.length as usize {
+            return Writing::Refused(Refusal::OtherLength);
+        }
+        let initial = self.initial;
+        let distance = number.offset_from(initial);
+        let offset = distance.0 as u32;
+        if self.is_there(waiting, offset) {
+            return Writing::AlreadyThere;
+        }
+        if offset > 60000 {
+            return Writing::Refused(Refusal::PastLimit);
+        }
+        if offset > self.count + 256 {
+            return Writing::Refused(Refusal::TooFarAhead);
+        }
+        if n > (self.length - self.ready) as usize - held as usize {
+            return Writing::Refused(Refusal::PayloadTooLong);
+        }
+        Writing::Stored
+    }
+
+    // Takes the oldest `n` ready bytes out, moves what stays down, and answers how many are ready
+    // then. Nothing moves where n is 0. The table is lent because the promise speaks of it.
+    fn take(self, waiting: &[u32; 256], held: u64, buf: &mut [u8], out: &mut [u8], n: usize) -> u32
+        requires { ⌜ (Takes (whole self (now waiting)) (now buf) (now out) n) × (Held (whole self (now waiting)) held) ⌝ }
+        ensures { λ r. ⌜ (stateIn (self .initial) (self .length) (self .count) r (self .span) (now (waiting .entry)) ≡ stateOf (now (waiting .entry)) (readOf (receiverOf (whole self (now (waiting .entry))) (now (buf .entry))) n)) × (now (buf .exit) ≡ roomOf (now (buf .entry)) (readOf (receiverOf (whole self (now (waiting .entry))) (now (buf .entry))) n)) × (now (out .exit) ≡ over (take n (receiverOf (whole self (now (waiting .entry))) (now (buf .entry)) .ready)) (now (out .entry))) ⌝ }
+    {
+        if n == 0 {
+            return self.ready;
+        }
+        let left = self.ready - n as u32;
+        bytes::copy(out, 0, buf, n);
+        bytes::move_down(buf, n, left as usize + held as usize);
+        left
+    }
+
+    // The payload waits past a gap.
+    fn kept(self, waiting: &mut [u32; 256], place: usize, n: u32) -> Counts
+        requires { ⌜ (Placeable (whole self (now waiting)) place n) × (0 < place) × (length (now waiting) ≡ 256) ⌝ }
+        ensures { λ r. ⌜ whole r (now (waiting .exit)) ≡ placedOf (whole self (now (waiting .entry))) place n ⌝ }
+    {
+        let span = self.span as usize;
+        if place < span {
+            waiting[place] = n + 1;
+            return self;
+        }
+        waiting::clear(waiting, span, place - span);
+        waiting[place] = n + 1;
+        let mut counts = self;
+        counts.span = (place + 1) as u32;
+        counts
+    }
+
+    // Place 0 is filled and others wait: they move to ready as far as no gap comes.
+    fn moved(self, waiting: &mut [u32; 256], n: u32) -> Counts
+        requires { ⌜ (Placeable (whole self (now waiting)) 0 n) × (0 < self .span) × (length (now waiting) ≡ 256) ⌝ }
+        ensures { λ r. ⌜ whole r (now (waiting .exit)) ≡ placedOf (whole self (now (waiting .entry))) 0 n ⌝ }
+    {
+        let span = self.span as usize;
+        let run = 1 + waiting::run_past_first(waiting, span);
+        let bytes = waiting::bytes_in(waiting, run) as u32;
+        waiting::shift_down(waiting, run, span - run);
+        let initial = self.initial;
+        Counts {
+            initial,
+            length: self.length,
+            count: self.count + run as u32,
+            ready: self.ready + n + bytes,
+            span: (span - run) as u32,
+        }
+    }
+
+    // A payload of `n` bytes is stored at `place`, and every next waiting one becomes ready.
+    fn placed(self, waiting: &mut [u32; 256], place: usize, n: u32) -> Counts
+        requires { ⌜ (Placeable (whole self (now waiting)) place n) × (length (now waiting) ≡ 256) ⌝ }
+        ensures { λ r. ⌜ whole r (now (waiting .exit)) ≡ placedOf (whole self (now (waiting .entry))) place n ⌝ }
+    {
+        if place != 0 {
+            return self.kept(waiting, place, n);
+        }
+        if self.span == 0 {
+            let mut counts = self;
+            counts.count = self.count + 1;
+            counts.ready = self.ready + n;
+            return counts;
+        }
+        self.moved(waiting, n)
+    }
+
+    // Puts `payload` into the buffer at the place of `number`, and answers the counts after that.
+    fn store(
+        self,
+        waiting: &mut [u32; 256],
+        held: u64,
+        buf: &mut [u8],
+        number: SeqNum,
+        payload: &[u8],
+    ) -> Counts
+        requires { ⌜ (answerOf (whole self (now waiting)) (length (now buf)) number (length (now payload)) ≡ Writing.Stored) × (length (now waiting) ≡ 256) × (Held (whole self (now waiting)) held) ⌝ }
+        ensures { λ r. ⌜ (whole r (now (waiting .exit)) ≡ stateOf (now (waiting .entry)) (afterWrite (whole self (now (waiting .entry))) (now (buf .entry)) number (now (payload .entry)))) × (now (buf .exit) ≡ roomOf (now (buf .entry)) (afterWrite (whole self (now (waiting .entry))) (now (buf .entry)) number (now (payload .entry)))) ⌝ }
+    {
+        let initial = self.initial;
+        let offset = number.offset_from(initial);
+        let place = (offset.0 as u32 - self.count - 1) as usize;
+        let span = self.span as usize;
+        let before = waiting::bytes_before(waiting, span, place) as usize;
+        bytes::insert(
+            buf,
+            self.ready as usize + before,
+            held as usize - before,
+            payload,
+        );
+        self.placed(waiting, place, payload.len() as u32)
+    }
+
+    // Stores `payload` under `number`, if the answer is that; otherwise all stays as it was.
+    fn write(
+        self,
+        waiting: &mut [u32; 256],
+        buf: &mut [u8],
+        number: SeqNum,
+        payload: &[u8],
+    ) -> StepWrite
+        requires { ⌜ length (now waiting) ≡ 256 ⌝ }
+        ensures { λ r. ⌜ (wholeWritten r (now (waiting .exit)) ≡ writtenOf (whole self (now (waiting .entry))) (now (buf .entry)) number (now (payload .entry))) × (now (buf .exit) ≡ writtenRoomOf (whole self (now (waiting .entry))) (now (buf .entry)) number (now (payload .entry))) ⌝ }
+    {
+        let held = self.held(waiting);
+        let answer = self.writing(waiting, held, buf.len(), number, payload.len());
+        match answer {
+            Writing::Stored => {
+                let counts = self.store(waiting, held, buf, number, payload);
+                StepWrite {
+                    answer: Writing::Stored,
+                    counts,
+                }
+            }
+            Writing::AlreadyThere => StepWrite {
+                answer: Writing::AlreadyThere,
+                counts: self,
+            },
+            Writing::Refused(why) => StepWrite {
+                answer: Writing::Refused(why),
+                counts: self,
+            },
+        }
+    }
+
+    // Reads the oldest ready bytes into `out`, as many as there are and fit.
+    fn read(self, waiting: &[u32; 256], buf: &mut [u8], out: &mut [u8]) -> StepRead
+        requires { ⌜ length (now waiting) ≡ 256 ⌝ }
+        ensures { λ r. ⌜ (wholeTaken self r (now (waiting .entry)) ≡ takenOf (whole self (now (waiting .entry))) (now (buf .entry)) (now (out .entry))) × (now (buf .exit) ≡ takenRoomOf (whole self (now (waiting .entry))) (now (buf .entry)) (now (out .entry))) × (now (out .exit) ≡ takenOutOf (whole self (now (waiting .entry))) (now (buf .entry)) (now (out .entry))) ⌝ }
+    {
+        let held = self.held(waiting);
+        if !self.is_sound(waiting, held) {
+            return StepRead {
+                answer: Count::Refused(Refusal::NotSound),
+                ready: self.ready,
+            };
+        }
+        if buf.len() != self.length as usize {
+            return StepRead {
+                answer: Count::Refused(Refusal::OtherLength),
+                ready: self.ready,
+            };
+        }
+        let n = smaller(out.len(), self.ready as usize);
+        let ready = self.take(waiting, held, buf, out, n);
+        StepRead {
+            answer: Count::Is(n),
+            ready,
+        }
+    }
+}
+
+impl ReceiveBuffer {
+    // The state apart from its table.
+    fn counts(self) -> Counts
+        ensures { λ r. ⌜ whole r (self .waiting) ≡ self ⌝ }
+    {
+        let initial = self.initial;
+        Counts {
+            initial,
+            length: self.length,
+            count: self.count,
+            ready: self.ready,
+            span: self.span,
+        }
+    }
+
+    // Whether the state passes the soundness test.
+    fn is_sound(self) -> bool
+        ensures { λ r. ⌜ r ≡ soundOf self ⌝ }
+    {
+        let counts = self.counts();
+        let held = counts.held(&self.waiting);
+        counts.is_sound(&self.waiting, held)
+    }
+
     // A receiver for payloads after `initial`, over a buffer of `length` bytes. Refusals: 10.
     pub fn new(initial: SeqNum, length: usize) -> Created
         ensures { λ r. ⌜ r ≡ createdOf initial length ⌝ }
@@ -162,48 +418,33 @@ impl ReceiveBuffer {
     pub fn write(self, buf: &mut [u8], number: SeqNum, payload: &[u8]) -> Written
         ensures { λ r. ⌜ (r ≡ writtenOf self (now (buf .entry)) number (now (payload .entry))) × (now (buf .exit) ≡ writtenRoomOf self (now (buf .entry)) number (now (payload .entry))) ⌝ }
     {
-        let answer = self.writing(buf.len(), number, payload.len());
-        match answer {
-            Writing::Stored => {
-                let state = self.store(buf, number, payload);
-                Written {
-                    answer: Writing::Stored,
-                    state,
-                }
-            }
-            Writing::AlreadyThere => Written {
-                answer: Writing::AlreadyThere,
-                state: self,
-            },
-            Writing::Refused(why) => Written {
-                answer: Writing::Refused(why),
-                state: self,
-            },
-        }
+        let counts = self.counts();
+        let mut waiting = self.waiting;
+        let step = counts.write(&mut waiting, buf, number, payload);
+        let answer = step.answer;
+        let after = step.counts;
+        let initial = after.initial;
+        let state = ReceiveBuffer {
+            initial,
+            length: after.length,
+            count: after.count,
+            ready: after.ready,
+            span: after.span,
+            waiting,
+        };
+        Written { answer, state }
     }
 
     // Reads the oldest ready bytes into `out`, as many as there are and fit. Refusals: 19, 18.
     pub fn read(self, buf: &mut [u8], out: &mut [u8]) -> Taken
         ensures { λ r. ⌜ (r ≡ takenOf self (now (buf .entry)) (now (out .entry))) × (now (buf .exit) ≡ takenRoomOf self (now (buf .entry)) (now (out .entry))) × (now (out .exit) ≡ takenOutOf self (now (buf .entry)) (now (out .entry))) ⌝ }
     {
-        if !self.is_sound() {
-            return Taken {
-                answer: Count::Refused(Refusal::NotSound),
-                state: self,
-            };
-        }
-        if buf.len() != self.length as usize {
-            return Taken {
-                answer: Count::Refused(Refusal::OtherLength),
-                state: self,
-            };
-        }
-        let n = smaller(out.len(), self.ready as usize);
-        let state = self.take(buf, out, n);
-        Taken {
-            answer: Count::Is(n),
-            state,
-        }
+        let counts = self.counts();
+        let step = counts.read(&self.waiting, buf, out);
+        let answer = step.answer;
+        let mut state = self;
+        state.ready = step.ready;
+        Taken { answer, state }
     }
 
     // How many bytes more the buffer can hold. Refusals: 19.
@@ -249,7 +490,8 @@ impl ReceiveBuffer {
         if self.is_sound() {
             let initial = self.initial;
             let offset = number.offset_from(initial);
-            Truth::Is(self.is_there(offset.0 as u32))
+            let counts = self.counts();
+            Truth::Is(counts.is_there(&self.waiting, offset.0 as u32))
         } else {
             Truth::Refused(Refusal::NotSound)
         }
@@ -327,148 +569,74 @@ impl ReceiveBuffer {
             Count::Refused(Refusal::NotSound)
         }
     }
-
-    // Takes the oldest `n` ready bytes out, and moves what stays down. Nothing moves where n is 0.
-    fn take(self, buf: &mut [u8], out: &mut [u8], n: usize) -> ReceiveBuffer
-        requires { ⌜ Takes self (now buf) (now out) n ⌝ }
-        ensures { λ r. ⌜ (r ≡ stateOf (self .waiting) (readOf (receiverOf self (now (buf .entry))) n)) × (now (buf .exit) ≡ roomOf (now (buf .entry)) (readOf (receiverOf self (now (buf .entry))) n)) × (now (out .exit) ≡ over (take n (receiverOf self (now (buf .entry)) .ready)) (now (out .entry))) ⌝ }
-    {
-        if n == 0 {
-            return self;
-        }
-        let held = waiting::bytes_in(&self.waiting, self.span as usize) as usize;
-        let left = self.ready - n as u32;
-        bytes::copy(out, 0, buf, n);
-        bytes::move_down(buf, n, left as usize + held);
-        let mut state = self;
-        state.ready = left;
-        state
-    }
-
-    // What a write of `n` bytes under `number` answers, over a buffer of `size` bytes.
-    fn writing(self, size: usize, number: SeqNum, n: usize) -> Writing
-        ensures { λ r. ⌜ r ≡ answerOf self size number n ⌝ }
-    {
-        if !self.is_sound() {
-            return Writing::Refused(Refusal::NotSound);
-        }
-        if size != self.length as usize {
-            return Writing::Refused(Refusal::OtherLength);
-        }
-        let initial = self.initial;
-        let distance = number.offset_from(initial);
-        let offset = distance.0 as u32;
-        if self.is_there(offset) {
-            return Writing::AlreadyThere;
-        }
-        if offset > 60000 {
-            return Writing::Refused(Refusal::PastLimit);
-        }
-        if offset > self.count + 256 {
-            return Writing::Refused(Refusal::TooFarAhead);
-        }
-        let held = waiting::bytes_in(&self.waiting, self.span as usize) as usize;
-        if n > (self.length - self.ready) as usize - held {
-            return Writing::Refused(Refusal::PayloadTooLong);
-        }
-        Writing::Stored
-    }
-
-    // Puts `payload` into the buffer at the place of `number`, and answers the state after that.
-    fn store(self, buf: &mut [u8], number: SeqNum, payload: &[u8]) -> ReceiveBuffer
-        requires { ⌜ answerOf self (length (now buf)) number (length (now payload)) ≡ Writing.Stored ⌝ }
-        ensures { λ r. ⌜ (r ≡ stateOf (self .waiting) (afterWrite self (now (buf .entry)) number (now (payload .entry)))) × (now (buf .exit) ≡ roomOf (now (buf .entry)) (afterWrite self (now (buf .entry)) number (now (payload .entry)))) ⌝ }
-    {
-        let initial = self.initial;
-        let offset = number.offset_from(initial);
-        let place = (offset.0 as u32 - self.count - 1) as usize;
-        let span = self.span as usize;
-        let held = waiting::bytes_in(&self.waiting, span) as usize;
-        let before = waiting::bytes_before(&self.waiting, span, place) as usize;
-        bytes::insert(buf, self.ready as usize + before, held - before, payload);
-        self.placed(place, payload.len() as u32)
-    }
-
-    // The state with a payload of `n` bytes stored at `place`, and every next waiting one ready.
-    fn placed(self, place: usize, n: u32) -> ReceiveBuffer
-        requires { ⌜ Placeable self place n ⌝ }
-        ensures { λ r. ⌜ r ≡ placedOf self place n ⌝ }
-    {
-        if place != 0 {
-            return self.kept(place, n);
-        }
-        if self.span == 0 {
-            let mut state = self;
-            state.count = self.count + 1;
-            state.ready = self.ready + n;
-            return state;
-        }
-        self.moved(n)
-    }
-
-    // The same where place 0 is filled and others wait: they move to ready as far as no gap comes.
-    fn moved(self, n: u32) -> ReceiveBuffer
-        requires { ⌜ (Placeable self 0 n) × (0 < self .span) ⌝ }
-        ensures { λ r. ⌜ r ≡ placedOf self 0 n ⌝ }
-    {
-        let span = self.span as usize;
-        let run = 1 + waiting::run_past_first(&self.waiting, span);
-        let bytes = waiting::bytes_in(&self.waiting, run) as u32;
-        let initial = self.initial;
-        let mut waiting = self.waiting;
-        waiting::shift_down(&mut waiting, run, span - run);
-        ReceiveBuffer {
-            initial,
-            length: self.length,
-            count: self.count + run as u32,
-            ready: self.ready + n + bytes,
-            span: (span - run) as u32,
-            waiting,
-        }
-    }
-
-    // The same past a gap: the payload waits.
-    fn kept(self, place: usize, n: u32) -> ReceiveBuffer
-        requires { ⌜ (Placeable self place n) × (0 < place) ⌝ }
-        ensures { λ r. ⌜ r ≡ placedOf self place n ⌝ }
-    {
-        let span = self.span as usize;
-        let initial = self.initial;
-        let mut waiting = self.waiting;
-        if place < span {
-            waiting[place] = n + 1;
-            return ReceiveBuffer {
-                initial,
-                length: self.length,
-                count: self.count,
-                ready: self.ready,
-                span: self.span,
-                waiting,
-            };
-        }
-        waiting::clear(&mut waiting, span, place - span);
-        waiting[place] = n + 1;
-        ReceiveBuffer {
-            initial,
-            length: self.length,
-            count: self.count,
-            ready: self.ready,
-            span: (place + 1) as u32,
-            waiting,
-        }
-    }
-
-    // Whether `offset` is at most the count, or waits.
-    fn is_there(self, offset: u32) -> bool
-        requires { ⌜ self .span ≤ 256 ⌝ }
-        ensures { λ r. ⌜ r ≡ thereOf (self .count) (tableOf self) offset ⌝ }
-    {
-        if offset <= self.count {
-            return true;
-        }
-        waiting::waits_at(&self.waiting, self.span as usize, self.count, offset)
-    }
 }
+
+// `write` where the receiver stays in place: its fields are lent, and only what changes is written.
+// Refusals: 19, 18, 15, 16, 17.
+pub fn write_in(
+    initial: SeqNum,
+    length: u32,
+    count: &mut u32,
+    ready: &mut u32,
+    span: &mut u32,
+    waiting: &mut [u32; 256],
+    buf: &mut [u8],
+    number: SeqNum,
+    payload: &[u8],
+) -> Writing
+    ensures { λ r. ⌜ (record { answer = r; state = stateIn initial length (now (count .exit)) (now (ready .exit)) (now (span .exit)) (now (waiting .exit)) } ≡ writtenOf (stateIn initial length (now (count .entry)) (now (ready .entry)) (now (span .entry)) (now (waiting .entry))) (now (buf .entry)) number (now (payload .entry)))
+        × (now (buf .exit) ≡ writtenRoomOf (stateIn initial length (now (count .entry)) (now (ready .entry)) (now (span .entry)) (now (waiting .entry))) (now (buf .entry)) number (now (payload .entry))) ⌝ }
+{
+    let table = *waiting;
+    tell_places(table);
+    let counts = Counts {
+        initial,
+        length,
+        count: *count,
+        ready: *ready,
+        span: *span,
+    };
+    let step = counts.write(waiting, buf, number, payload);
+    let after = step.counts;
+    *count = after.count;
+    *ready = after.ready;
+    *span = after.span;
+    step.answer
+}
+
+// `read` where the receiver stays in place: of its fields only the ready count changes. Refusals: 19, 18.
+pub fn read_in(
+    initial: SeqNum,
+    length: u32,
+    count: u32,
+    ready: &mut u32,
+    span: u32,
+    waiting: &[u32; 256],
+    buf: &mut [u8],
+    out: &mut [u8],
+) -> Count
+    ensures { λ r. ⌜ (record { answer = r; state = stateIn initial length count (now (ready .exit)) span (now (waiting .entry)) } ≡ takenOf (stateIn initial length count (now (ready .entry)) span (now (waiting .entry))) (now (buf .entry)) (now (out .entry)))
+        × (now (buf .exit) ≡ takenRoomOf (stateIn initial length count (now (ready .entry)) span (now (waiting .entry))) (now (buf .entry)) (now (out .entry)))
+        × (now (out .exit) ≡ takenOutOf (stateIn initial length count (now (ready .entry)) span (now (waiting .entry))) (now (buf .entry)) (now (out .entry))) ⌝ }
+{
+    let table = *waiting;
+    tell_places(table);
+    let counts = Counts {
+        initial,
+        length,
+        count,
+        ready: *ready,
+        span,
+    };
+    let step = counts.read(waiting, buf, out);
+    *ready = step.ready;
+    step.answer
+}
+
+// Tells of a table by value that it has 256 places, which a lent one does not tell. Nothing is done.
+fn tell_places(table: [u32; 256])
+    ensures { λ _. ⌜ length table ≡ 256 ⌝ }
+{}
 
 // The smaller of two numbers.
 fn smaller(a: usize, b: usize) -> usize

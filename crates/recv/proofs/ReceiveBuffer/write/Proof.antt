@@ -1,56 +1,27 @@
--- The answer is the rule's. Where it stores, the state and the buffer are those of `store`; in the other two cases both are as they came.
-use mathlib.Core.Path.{refl, sym, _∙_}
+-- The state is its counts beside its table.
+use mathlib.Core.Path.{ap, _∙_}
 use borrow.Author.Needs.{needs}
-use Rattle.recv.specs.Laws.Answers.{written-is, written-room-is}
+use Rattle.recv.specs.Calls.{writtenOf, writtenRoomOf}
+use Rattle.recv.specs.declared.ReceiveBuffer.{ReceiveBuffer}
 use Rattle.recv.proofs.ReceiveBuffer.write.Statement.{statement}
 use Rattle.recv.proofs.ReceiveBuffer.write.Tie as tie
 
-writing-requires : tie.Need-writing-requires
-writing-requires c κs = search needs
+counts-requires : tie.Need-counts-requires
+counts-requires c κs = search needs
 
-enum-told : tie.Need-enum-told
-enum-told c = search needs
-
-store-requires : tie.Need-store-requires
-store-requires c κs = sym (c .before .before .before .writing .ensures) ∙ c .before .enum-told .given .1
-
-enum-told-2 : tie.Need-enum-told-2
-enum-told-2 c = search needs
-
-enum-known-answer : tie.Need-enum-known-answer
-enum-known-answer c = search needs
+write-requires : tie.Need-write-requires
+write-requires c κs = search needs
 
 same-length : tie.Need-same-length
 same-length c = search needs
 
 returns : tie.Need-returns
 returns c =
-    let a = c .before .before .before .before .before .before .before .before .before .args in
-    let answer = sym (c .before .before .before .before .before .before .writing .ensures) ∙ c .before .before .before .before .enum-told .given .1 in
-    (written-is (a .self) (a .buf .now) (a .number) (a .payload .now) _ answer _ (c .before .before .store .ensures .0), written-room-is (a .self) (a .buf .now) (a .number) (a .payload .now) _ answer _ (c .before .before .store .ensures .1))
-
-returns-2 : tie.Need-returns-2
-returns-2 c =
-    let a = c .before .before .before .before .before .args in
-    let answer = sym (c .before .before .writing .ensures) ∙ c .enum-told2 .given .1 in
-    (written-is (a .self) (a .buf .now) (a .number) (a .payload .now) _ answer _ refl, written-room-is (a .self) (a .buf .now) (a .number) (a .payload .now) _ answer _ refl)
-
-returns-3 : tie.Need-returns-3
-returns-3 c =
-    let a = c .before .before .before .before .before .before .args in
-    let answer = sym (c .before .before .before .writing .ensures) ∙ c .before .answer .given .1 in
-    (written-is (a .self) (a .buf .now) (a .number) (a .payload .now) _ answer _ refl, written-room-is (a .self) (a .buf .now) (a .number) (a .payload .now) _ answer _ refl)
+    let a = c .before .before .before .before .before .before .before .before .before .before .before .args in
+    let same = c .before .before .before .before .before .before .before .before .counts .ensures in (
+      c .before .before .before .before .write .ensures .0 ∙ ap (λ (s : ReceiveBuffer). writtenOf s (a .buf .now) (a .number) (a .payload .now)) same,
+      c .before .before .before .before .write .ensures .1 ∙ ap (λ (s : ReceiveBuffer). writtenRoomOf s (a .buf .now) (a .number) (a .payload .now)) same,
+    )
 
 pub write-spec : {M : Type 1} → statement M
-write-spec =
-    tie.close
-    (tie.spec
-    writing-requires
-    enum-told
-    store-requires
-    enum-told-2
-    enum-known-answer
-    same-length
-    returns
-    returns-2
-    returns-3)
+write-spec = tie.close (tie.spec counts-requires write-requires same-length returns)

@@ -2,8 +2,8 @@
 use mathlib.Core.Path.{sym, _∙_}
 use borrow.Author.Needs.{needs}
 use Rattle.recv.specs.Laws.Table.{there-behind, there-ahead}
-use Rattle.recv.proofs.ReceiveBuffer.is_there.Statement.{statement}
-use Rattle.recv.proofs.ReceiveBuffer.is_there.Tie as tie
+use Rattle.recv.proofs.Counts.is_there.Statement.{statement}
+use Rattle.recv.proofs.Counts.is_there.Tie as tie
 
 returns : tie.Need-returns
 returns c = sym (there-behind _ _ _ (c .if1 .taken))
@@ -15,7 +15,7 @@ waits-at-requires : tie.Need-waits-at-requires
 waits-at-requires c κs = search needs
 
 returns-2 : tie.Need-returns-2
-returns-2 c = c .waits-at .ensures ∙ sym (there-ahead _ _ _ (c .before .before .before .if1 .left))
+returns-2 c = c .waits-at .ensures ∙ sym (there-ahead _ _ _ (c .before .before .if1 .left))
 
 pub is-there-spec : {M : Type 1} → statement M
 is-there-spec = tie.close (tie.spec returns cast-waits-at waits-at-requires returns-2)

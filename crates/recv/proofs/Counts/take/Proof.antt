@@ -4,25 +4,20 @@ use mathlib.Core.Path.{sym, ap, _∙_}
 use borrow.Author.Needs.{needs}
 use lib.ListN.{drop}
 use lib.Seq.{paste}
+use Rattle.recv.specs.Lent.{whole}
 use Rattle.recv.specs.Laws.Reading.{taken-state, taken-room, taken-out, none-state, none-room, none-out}
-use Rattle.recv.proofs.ReceiveBuffer.take.Statement.{statement}
-use Rattle.recv.proofs.ReceiveBuffer.take.Tie as tie
+use Rattle.recv.proofs.Counts.take.Statement.{statement}
+use Rattle.recv.proofs.Counts.take.Tie as tie
 
 returns : tie.Need-returns
 returns c =
-    let start = c .before .before .before in
-    let a = start .args in
-    let known = start .pre in (
-      none-state (a .t1) (a .buf .now) (a .out .now) (a .n) known (c .if1 .taken),
-      none-room (a .t1) (a .buf .now) (a .out .now) (a .n) known (c .if1 .taken),
-      none-out (a .t1) (a .buf .now) (a .out .now) (a .n) known (c .if1 .taken),
+    let a = c .before .before .before .args in
+    let s = whole (a .self) (a .waiting .now) in
+    let known = c .before .before .before .pre .0 in (
+      none-state s (a .buf .now) (a .out .now) (a .n) known (c .if1 .taken),
+      none-room s (a .buf .now) (a .out .now) (a .n) known (c .if1 .taken),
+      none-out s (a .buf .now) (a .out .now) (a .n) known (c .if1 .taken),
     )
-
-cast-bytes-in : tie.Need-cast-bytes-in
-cast-bytes-in c = search needs
-
-bytes-in-requires : tie.Need-bytes-in-requires
-bytes-in-requires c κs = search needs
 
 cast-left : tie.Need-cast-left
 cast-left c = search needs
@@ -50,13 +45,12 @@ same-length-2 c = search needs
 
 returns-2 : tie.Need-returns-2
 returns-2 c =
-    let start = c .before .before .before .before .before .before .before .before .before .before .before .before .before .before .before in
-    let a = start .args in
-    let s = a .t1 in
-    let known = start .pre in (
+    let a = c .before .before .before .before .before .before .before .before .before .before .before .before .before .args in
+    let s = whole (a .self) (a .waiting .now) in
+    let known = c .before .before .before .before .before .before .before .before .before .before .before .before .before .pre .0 in (
       sym (taken-state s (a .buf .now) (a .out .now) (a .n) known),
       c .before .before .move-down .ensures
-          ∙ ap (λ (held : ℕ). paste (a .buf .now) 0 (drop (a .n) (a .buf .now)) (s .ready - a .n + held)) (c .before .before .before .before .before .before .before .before .before .bytes-in .ensures .0)
+          ∙ ap (λ (held : ℕ). paste (a .buf .now) 0 (drop (a .n) (a .buf .now)) (s .ready - a .n + held)) (c .before .before .before .before .before .before .before .before .before .before .before .before .before .pre .1 .is)
           ∙ sym (taken-room s (a .buf .now) (a .out .now) (a .n) known),
       c .before .before .before .before .before .before .copy .ensures ∙ sym (taken-out s (a .buf .now) (a .out .now) (a .n) known),
     )
@@ -66,8 +60,6 @@ take-spec =
     tie.close
     (tie.spec
     returns
-    cast-bytes-in
-    bytes-in-requires
     cast-left
     sub-left
     copy-requires
