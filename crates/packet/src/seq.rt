@@ -3,6 +3,7 @@ ghost use mathlib.Core.Path.{_≡_};
 ghost use Rattle.packet.specs.Seq.{plusOf, offsetOf, rangeOf, containsOf, nextOf};
 
 // A number as it stands on the wire. Numbers run round modulo 65,536.
+#[repr(C)]
 pub struct SeqNum(pub u16);
 
 // How far a number lies past an initial number, modulo 65,536.

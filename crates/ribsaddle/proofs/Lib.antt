@@ -1,0 +1,20 @@
+-- The walks of the exported functions, one for each form and shape, and the states that they are over.
+pub mod Behind
+pub mod Exported
+pub mod Mut_0
+pub mod Mut_nn
+pub mod Mut_nnnnn
+pub mod Mut_nnnnnnnn
+pub mod Mut_nsnn
+pub mod Mut_s
+pub mod Part_vl_mmr
+pub mod Part_vl_mns
+pub mod Promises
+pub mod Ref_0
+pub mod Ref_mr
+pub mod Ref_nr
+pub mod Ref_nrrr
+pub mod Ref_r
+pub mod Ref_rr
+pub mod Ref_ssmr
+pub mod States

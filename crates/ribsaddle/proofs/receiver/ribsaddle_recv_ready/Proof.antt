@@ -1,0 +1,19 @@
+-- `ribsaddle::receiver::ribsaddle_recv_ready` meets its contract, by the walk of its form and the contract of `ready`. Assumes nothing.
+use mir.Syntax.{w32, w64}
+use Rattle.ribsaddle.specs.Answer.{numberOf, valueOr}
+use Rattle.ribsaddle.specs.Receiver.{countAnswer}
+use Rattle.recv.specs.State.{countedOf}
+use Rattle.ribsaddle.proofs.receiver.ready.Symbol as callee
+use Rattle.ribsaddle.proofs.receiver.ready.Met as callee-thm
+use Rattle.ribsaddle.proofs.Behind.{uint}
+use Rattle.ribsaddle.proofs.States.{receiver}
+use Rattle.ribsaddle.proofs.Ref_r as walk
+use Rattle.ribsaddle.proofs.receiver.ribsaddle_recv_ready.Key as key
+use Rattle.ribsaddle.proofs.receiver.ribsaddle_recv_ready.Statement as stated
+use Rattle.ribsaddle.proofs.receiver.ribsaddle_recv_ready.Code as code
+
+pub ribsaddle-recv-ready-spec : {M : Type 1} → stated.statement M
+unfolding code.routine
+ribsaddle-recv-ready-spec 𝓤 H 𝓜 𝓖 𝓡 =
+    walk.proved receiver (uint w64) (uint w32) callee.name (λ s v. numberOf (countAnswer (countedOf s (s .ready)))) (λ s v. valueOr v (countAnswer (countedOf s (s .ready)))) 𝓤 H 𝓜 𝓖 𝓡 code.env key.name (code.unfolded 𝓤 H 𝓜 𝓡)
+    callee.routine code.calls-ribsaddle·receiver·ready (callee-thm.met 𝓤 H 𝓜 𝓖 𝓡)

@@ -1,0 +1,20 @@
+-- `ribsaddle::receiver::ribsaddle_recv_waiting_bytes` meets its contract, by the walk of its form and the contract of `waiting_bytes`. Assumes nothing.
+use mir.Syntax.{w32, w64}
+use Rattle.ribsaddle.specs.Answer.{numberOf, valueOr}
+use Rattle.ribsaddle.specs.Receiver.{countAnswer}
+use Rattle.recv.specs.State.{countedOf, tableOf}
+use Rattle.recv.specs.Table.{bytesIn}
+use Rattle.ribsaddle.proofs.receiver.waiting_bytes.Symbol as callee
+use Rattle.ribsaddle.proofs.receiver.waiting_bytes.Met as callee-thm
+use Rattle.ribsaddle.proofs.Behind.{uint}
+use Rattle.ribsaddle.proofs.States.{receiver}
+use Rattle.ribsaddle.proofs.Ref_r as walk
+use Rattle.ribsaddle.proofs.receiver.ribsaddle_recv_waiting_bytes.Key as key
+use Rattle.ribsaddle.proofs.receiver.ribsaddle_recv_waiting_bytes.Statement as stated
+use Rattle.ribsaddle.proofs.receiver.ribsaddle_recv_waiting_bytes.Code as code
+
+pub ribsaddle-recv-waiting-bytes-spec : {M : Type 1} → stated.statement M
+unfolding code.routine
+ribsaddle-recv-waiting-bytes-spec 𝓤 H 𝓜 𝓖 𝓡 =
+    walk.proved receiver (uint w64) (uint w32) callee.name (λ s v. numberOf (countAnswer (countedOf s (bytesIn (tableOf s))))) (λ s v. valueOr v (countAnswer (countedOf s (bytesIn (tableOf s))))) 𝓤 H 𝓜 𝓖 𝓡 code.env key.name (code.unfolded 𝓤 H 𝓜 𝓡)
+    callee.routine code.calls-ribsaddle·receiver·waiting-bytes (callee-thm.met 𝓤 H 𝓜 𝓖 𝓡)

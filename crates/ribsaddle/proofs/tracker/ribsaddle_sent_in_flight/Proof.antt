@@ -1,0 +1,19 @@
+-- `ribsaddle::tracker::ribsaddle_sent_in_flight` meets its contract, by the walk of its form and the contract of `in_flight`. Assumes nothing.
+use mir.Syntax.{w32, w64}
+use Rattle.ribsaddle.specs.Answer.{numberOf, valueOr}
+use Rattle.sent.specs.State.{readOf}
+use Rattle.sent.specs.Read.{inFlightIn}
+use Rattle.ribsaddle.proofs.tracker.in_flight.Symbol as callee
+use Rattle.ribsaddle.proofs.tracker.in_flight.Met as callee-thm
+use Rattle.ribsaddle.proofs.Behind.{uint}
+use Rattle.ribsaddle.proofs.States.{tracker}
+use Rattle.ribsaddle.proofs.Ref_r as walk
+use Rattle.ribsaddle.proofs.tracker.ribsaddle_sent_in_flight.Key as key
+use Rattle.ribsaddle.proofs.tracker.ribsaddle_sent_in_flight.Statement as stated
+use Rattle.ribsaddle.proofs.tracker.ribsaddle_sent_in_flight.Code as code
+
+pub ribsaddle-sent-in-flight-spec : {M : Type 1} → stated.statement M
+unfolding code.routine
+ribsaddle-sent-in-flight-spec 𝓤 H 𝓜 𝓖 𝓡 =
+    walk.proved tracker (uint w64) (uint w32) callee.name (λ s v. numberOf (readOf s inFlightIn)) (λ s v. valueOr v (readOf s inFlightIn)) 𝓤 H 𝓜 𝓖 𝓡 code.env key.name (code.unfolded 𝓤 H 𝓜 𝓡)
+    callee.routine code.calls-ribsaddle·tracker·in-flight (callee-thm.met 𝓤 H 𝓜 𝓖 𝓡)
