@@ -29,7 +29,7 @@ pub fn sack_number(error: &SelectiveAckError) -> u8 {
 
 /// What the Rust answers, in the shape of the model. The Rust tells the payload and the SACK's bits but no places: the
 /// payload is the datagram's tail, and the SACK's place is the model's, taken only if the bytes there are the bits again.
-fn rust_decode(datagram: &[u8]) -> Result<Read, u8> {
+pub fn rust_decode(datagram: &[u8]) -> Result<Read, u8> {
     let packet = Packet::decode(datagram).map_err(|error| number_of(&error))?;
     let sack = match packet.selective_ack() {
         None => (0, 0),

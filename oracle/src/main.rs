@@ -32,7 +32,7 @@ mod recv {
     }
 }
 
-/// With the one edit: see build.sh.
+/// With the one edit: see edit.sh.
 #[allow(dead_code)]
 mod congestion {
     include!(concat!(env!("ORACLE_BUILD"), "/congestion.rs"));

@@ -1,0 +1,9 @@
+#!/bin/sh
+# A share of the tries of the compiled library by itself (compare/hammer/run.sh).
+set -eu
+here=$(cd "$(dirname "$0")/.." && pwd)
+if ! command -v cc > /dev/null; then
+    echo "hammer_test.sh: left out, there is no cc"
+    exit 0
+fi
+sh "$here/compare/hammer/run.sh" 1
