@@ -1,7 +1,8 @@
 """Every public function of a library: no `requires`, an `ensures`, and a promise in its crate's proofs/Promises.antt and on docs/PROMISES.md.
 
 A public function is a `pub fn` (not `pub(crate) fn`) in a file of crates/NAME/src of a crate that has src/lib.rt; its proof's module is
-proofs/FILE/TYPE/NAME, without FILE for lib.rt and without TYPE outside an `impl`. Exit status 1 where anything is missing.
+proofs/FILE/TYPE/NAME, without FILE for lib.rt and without TYPE outside an `impl`. Of an exported function over a state behind a pointer the record is an
+`Exported` of its clauses (crates/ribsaddle/proofs/Exported.antt). Exit status 1 where anything is missing.
 """
 import pathlib
 import re
@@ -59,10 +60,10 @@ def main():
                     problems.append(f"{file}:{number}: {shown} has a `requires`")
                 if not re.search(r"^\s*ensures", contract, re.M):
                     problems.append(f"{file}:{number}: {shown} promises nothing")
-                use = re.search(r"proofs\.proofs\." + re.escape(path) + r"\.Reads as (\S+)", listed)
+                use = re.search(r"proofs\.proofs\." + re.escape(path) + r"(?:\.Reads)? as (\S+)", listed)
                 if not use:
                     problems.append(f"{file}:{number}: {shown} has no promise in {promises}")
-                elif not re.search(r"Promise[^\n]*\b" + re.escape(use.group(1)) + r"\.Pre\b", listed):
+                elif not re.search(r"(Promise[^\n]*\b" + re.escape(use.group(1)) + r"\.Pre\b|: Exported " + re.escape(use.group(1)) + r"\.ended )", listed):
                     problems.append(f"{file}:{number}: {shown} is imported in {promises} and nothing is shown of it")
                 if f"`{shown}`" not in page:
                     problems.append(f"{file}:{number}: {shown} is not on docs/PROMISES.md")
