@@ -8,6 +8,10 @@
 set -eu
 root=$(cd "$(dirname "$0")/.." && pwd)
 cd "$root"
+if [ "$(uname -m)" != x86_64 ]; then
+    echo "bench: the library is for x86-64, and an emulator's times say nothing"
+    exit 1
+fi
 if [ -z "${RIBSADDLE_LIB_DIR:-}" ]; then
     . tests/library.sh
     RIBSADDLE_LIB_DIR=$root/target/staticlib

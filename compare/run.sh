@@ -13,9 +13,10 @@ if [ -z "${RIBSADDLE_LIB_DIR:-}" ]; then
     RIBSADDLE_LIB_DIR=$root/target/staticlib
 fi
 . oracle/edit.sh
+. tests/machine.sh
 mkdir -p target/compare
-rustc --edition 2021 -C opt-level=3 -L "$RIBSADDLE_LIB_DIR" -o target/compare/compare compare/src/main.rs
+$RUST_COMPILER --edition 2021 -C opt-level=3 -L "$RIBSADDLE_LIB_DIR" -o target/compare/compare compare/src/main.rs
 if [ $# -eq 3 ]; then
-    exec target/compare/compare "$@"
+    exec $emulated target/compare/compare "$@"
 fi
-exec target/compare/compare "${1:-100}" "${2:-1}"
+exec $emulated target/compare/compare "${1:-100}" "${2:-1}"

@@ -3,13 +3,18 @@
 set -eu
 here=$(cd "$(dirname "$0")/.." && pwd)
 cd "$here"
+. tests/machine.sh
 if [ ! -f "${UTP_RS_SRC:-../shared/docs/src}/src/packet.rs" ] || ! command -v rustc > /dev/null; then
     echo "compare_test.sh: the live comparison is left out, the Rust source or rustc is not at hand"
     exit 0
 fi
+if [ -n "$cross" ]; then
+    echo "compare_test.sh: the live comparison is left out, $cross"
+    exit 0
+fi
 sh compare/run.sh 3 "${COMPARE_SEED:-20261115}"
 for plant in decode encode tracker receiver; do
-    if COMPARE_PLANT=$plant target/compare/compare 1 7 "$plant" > target/compare/planted; then
+    if COMPARE_PLANT=$plant $emulated target/compare/compare 1 7 "$plant" > target/compare/planted; then
         echo "compare_test.sh: the fault planted in $plant was not found"
         exit 1
     fi

@@ -3,6 +3,11 @@
 # Then the C example: a whole transfer between two ends.
 set -euo pipefail
 cd "$(dirname "$0")/.."
+. tests/machine.sh
+if [ -n "$cross" ]; then
+  echo "header_test.sh: left out, $cross"
+  exit 0
+fi
 if ! command -v cc >/dev/null 2>&1; then
   echo "header_test.sh: left out, there is no cc"
   exit 0
@@ -12,7 +17,7 @@ trap 'rm -rf "$room"' EXIT
 . tests/library.sh
 
 # Every exported name is in the header, with a declaration and a comment near it, and every declared name is exported; both are what the source marks.
-nm --defined-only --extern-only "$library" | sed -n 's/.* T //p' | sort > "$room/exported"
+$NAMES --defined-only --extern-only "$library" | sed -n 's/.* T //p' | sort > "$room/exported"
 grep -o '^uint32_t ribsaddle_[a-z_]*(' include/ribsaddle.h | sed 's/^uint32_t //; s/($//' | sort > "$room/declared"
 grep -h -o '^pub extern "C" fn ribsaddle_[a-z_]*' crates/ribsaddle/src/*.rt | sed 's/.* //' | sort > "$room/marked"
 for list in declared marked; do
@@ -25,7 +30,7 @@ done
 echo "header_test.sh: $(wc -l < "$room/exported") names in the library, the header and the source"
 
 # The library asks the C library for these alone.
-nm --undefined-only "$library" | sed -n 's/.* U //p' | sort -u > "$room/asked"
+$NAMES --undefined-only "$library" | sed -n 's/.* U //p' | sort -u > "$room/asked"
 printf 'memcpy\nmemmove\nmemset\n' > "$room/allowed"
 if comm -23 "$room/asked" "$room/allowed" | grep -q .; then
   echo "header_test.sh: the library asks for more than memcpy, memmove and memset:"
@@ -34,10 +39,14 @@ if comm -23 "$room/asked" "$room/allowed" | grep -q .; then
 fi
 
 strict="-std=c11 -Wall -Wextra -Werror -O2 -Iinclude"
-cc $strict tests/c/header.c "$library" -o "$room/header"
-"$room/header"
-cc $strict examples/c/transfer.c "$library" -o "$room/transfer"
-(ulimit -s 256 && "$room/transfer")         # in KB: the header says how much stack a call takes
+$C_COMPILER $strict tests/c/header.c "$library" -o "$room/header"
+$emulated "$room/header"
+$C_COMPILER $strict examples/c/transfer.c "$library" -o "$room/transfer"
+if [ -n "$emulated" ]; then
+  $emulated -s 262144 "$room/transfer"      # a stack of 256 KB: the header says how much a call takes
+else
+  (ulimit -s 256 && "$room/transfer")
+fi
 if [ "$(wc -l < examples/c/transfer.c)" -ge 100 ]; then
   echo "header_test.sh: examples/c/transfer.c has 100 lines or more"
   exit 1

@@ -1,6 +1,6 @@
 """Replays recorded sessions and damaged files with the program `replay`, and compares every line that it prints.
 
-    python3 tests/replay.py PROGRAM       runs every case; exit status 1 where one fails
+    python3 tests/replay.py COMMAND...    runs every case; exit status 1 where one fails
     python3 tests/replay.py --sample      writes the sample session of crates/replay/data and its lines again
 
 The sessions are those of oracle/README.md (sent.bin, sent-long.bin), written out in the format of document 02, No. 3: their expected numbers come from the
@@ -150,8 +150,8 @@ def run(program, data, folder, by_name=False):
     if by_name:
         path = folder / "session"
         path.write_bytes(data)
-        return subprocess.run([program, path], capture_output=True, timeout=60)
-    return subprocess.run([program], input=data, capture_output=True, timeout=60)
+        return subprocess.run([*program, path], capture_output=True, timeout=600)
+    return subprocess.run(program, input=data, capture_output=True, timeout=600)
 
 
 def main():
@@ -160,7 +160,7 @@ def main():
         (ROOT / "crates/replay/data/sample.session").write_bytes(data)
         (ROOT / "crates/replay/stdout").write_text(lines)
         return 0
-    program, failed, count = sys.argv[1], [], 0
+    program, failed, count = sys.argv[1:], [], 0
     with tempfile.TemporaryDirectory() as name:
         folder = pathlib.Path(name)
 
@@ -205,7 +205,7 @@ def main():
                 failed.append(f"a session of {held + 1} bytes: printed {ran.stdout[:80]!r}, said {ran.stderr[:80]!r}")
         for path, words in ((folder / "none", b"none: No such file"), (folder, b"")):
             count += 1
-            ran = subprocess.run([program, path], capture_output=True, timeout=60)
+            ran = subprocess.run([*program, path], capture_output=True, timeout=600)
             if ran.stdout or not ran.stderr or words not in ran.stderr:
                 failed.append(f"{path}: printed {ran.stdout[:80]!r}, said {ran.stderr[:80]!r}")
     print("\n".join(failed) if failed else f"{count} sessions, each printed as expected")

@@ -3,7 +3,8 @@
 set -eu
 here=$(cd "$(dirname "$0")/.." && pwd)
 (cd "$here" && rt check replay) > /dev/null
-python3 "$here/tests/replay.py" "$here/target/bin/replay"
+. "$here/tests/machine.sh"
+python3 "$here/tests/replay.py" $run "$here/target/bin/replay"
 room=$(mktemp -d)
 trap 'rm -rf "$room"' EXIT
 

@@ -9,4 +9,5 @@ if [ ! -f "$capture.dgrams" ] || [ ! -f "$capture.tshark.tsv" ]; then
     exit 0
 fi
 (cd "$here" && rt check inspect) > /dev/null
-"$here/target/bin/inspect" "$capture.dgrams" | python3 "$here/oracle/tshark.py" compare - "$capture.tshark.tsv" "$capture.dgrams"
+. "$here/tests/machine.sh"
+$run "$here/target/bin/inspect" "$capture.dgrams" | python3 "$here/oracle/tshark.py" compare - "$capture.tshark.tsv" "$capture.dgrams"

@@ -15,13 +15,18 @@ if [ -z "${RIBSADDLE_LIB_DIR:-}" ]; then
     RIBSADDLE_LIB_DIR=$root/target/staticlib
 fi
 library=$RIBSADDLE_LIB_DIR/libribsaddle.a
+. tests/machine.sh
 build=target/hammer
 mkdir -p "$build"
 caller="compare/hammer/hammer.c $library -std=c11 -Wall -Wextra -Werror -g -O1"
 
-cc $caller -o "$build/plain"
-timeout 3600 "$build/plain" $((5000 * percent)) "$seed"
+$C_COMPILER $caller -o "$build/plain"
+timeout 3600 $emulated "$build/plain" $((5000 * percent)) "$seed"
 
+if [ -n "$emulated" ]; then
+    echo "hammer: sanitizers, memcheck and AFL++ are left out, they do not run under an emulator"
+    exit 0
+fi
 cc $caller -fsanitize=address,undefined -fno-sanitize-recover=all -o "$build/sanitized"
 printf 'with the C caller under address and undefined-behaviour sanitizers, '
 timeout 3600 "$build/sanitized" $((2000 * percent)) $((seed + 1))
