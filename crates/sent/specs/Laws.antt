@@ -16,3 +16,7 @@ pub mod Packets
 pub mod Keeps
 pub mod Reached
 pub mod History
+pub mod LentPackets
+pub mod LentState
+pub mod LentSamples
+pub mod LentHead

@@ -4,6 +4,7 @@ pub mod Loss
 pub mod Transmit
 pub mod Ack
 pub mod Hear
+pub mod Lent
 pub mod Lost
 pub mod Read
 pub mod Answers

@@ -21,7 +21,14 @@ ghost use Rattle.sent.specs.Hear.{keepsOf, heardAt, stepOf, runOf, unhea
 ghost use Rattle.sent.specs.State.{stateSoundOf, ackStateOf, ackAnswer};
 
 // The checks of an ack, in their order: 11, 5, 6, 8, 12.
-fn ack_check(last: u64, count: u32, offset: u32, bytes: usize, delay: u64, clock: u64) -> Outcome
+pub(crate) fn ack_check(
+    last: u64,
+    count: u32,
+    offset: u32,
+    bytes: usize,
+    delay: u64,
+    clock: u64,
+) -> Outcome
     ensures { λ r. ⌜ outcome r ≡ ackCheck last count offset bytes delay clock ⌝ }
 {
     if Settings::LATEST < clock {
@@ -48,7 +55,7 @@ fn ack_check(last: u64, count: u32, offset: u32, bytes: usize, delay: u64, clock
 
 impl Packet {
     // Acknowledged, and so no longer lost.
-    fn acked_now(self) -> Packet
+    pub(crate) fn acked_now(self) -> Packet
         ensures { λ r. ⌜ r ≡ withAcked self ⌝ }
     {
         let mut next = self;
@@ -58,13 +65,13 @@ impl Packet {
     }
 
     // Is it lost and was not before, `later` of those behind it being acknowledged?
-    fn is_newly_lost(self, later: u32) -> bool
+    pub(crate) fn is_newly_lost(self, later: u32) -> bool
         ensures { λ r. ⌜ r ≡ isNewlyLostOf self later ⌝ }
     {
         self.is_lost(later) & (self.lost == 0)
     }
 
-    fn lost_now(self) -> Packet
+    pub(crate) fn lost_now(self) -> Packet
         ensures { λ r. ⌜ r ≡ withLost self 1 ⌝ }
     {
         let mut next = self;
@@ -75,13 +82,13 @@ impl Packet {
 
 // What an ack brings: the offset of its number, the delay with the base that goes with it, and the
 // clock; beside how many packets were sent and how many of them are no longer kept.
-struct Ack {
-    offset: u32,
-    gone: u32,
-    count: u32,
-    base: u64,
-    delay: u64,
-    clock: u64,
+pub(crate) struct Ack {
+    pub(crate) offset: u32,
+    pub(crate) gone: u32,
+    pub(crate) count: u32,
+    pub(crate) base: u64,
+    pub(crate) delay: u64,
+    pub(crate) clock: u64,
 }
 
 // What an ack works on, and whether a packet was newly acknowledged (1) or none (0).
@@ -93,7 +100,7 @@ struct Heard {
 
 impl Ack {
     // Is the packet with this offset kept?
-    fn keeps(self, offset: u32) -> bool
+    pub(crate) fn keeps(self, offset: u32) -> bool
         ensures { λ r. ⌜ r ≡ keepsOf self offset ⌝ }
     {
         (self.gone < offset) & (offset <= self.count)
@@ -111,7 +118,7 @@ impl Ack {
     }
 
     // What a newly acknowledged packet makes of the numbers.
-    fn credited(self, packet: Packet, numbers: Numbers) -> Numbers
+    pub(crate) fn credited(self, packet: Packet, numbers: Numbers) -> Numbers
         ensures { λ r. ⌜ r ≡ creditedBy (self .base) (self .delay) (self .clock) packet numbers ⌝ }
     {
         let trip = self.round_trip(packet);
@@ -120,7 +127,7 @@ impl Ack {
 
     // The offset that step `j` speaks of, or 0 where it speaks of none: the number itself, each SACK
     // bit upward, then every earlier one that is kept.
-    fn heard_at(self, sack: &[u8], bits: usize, j: usize) -> u32
+    pub(crate) fn heard_at(self, sack: &[u8], bits: usize, j: usize) -> u32
         requires { ⌜ (bits ≤ 2016) × (j ≤ 65536) × (self .offset ≤ 60000) × (self .gone ≤ 60000) ⌝ }
         ensures { λ r. ⌜ r ≡ heardAt self (now (sack .entry)) bits j ⌝ }
     {
@@ -137,7 +144,7 @@ impl Ack {
     }
 
     // How many earlier ones are kept.
-    fn earlier_count(self) -> usize
+    pub(crate) fn earlier_count(self) -> usize
         requires { ⌜ 1 ≤ self .offset ⌝ }
         ensures { λ r. ⌜ r ≡ self .offset - 1 - self .gone ⌝ }
     {
@@ -149,14 +156,14 @@ impl Ack {
 }
 
 // A run of steps: `count` of them, from `from` on.
-struct Run {
-    from: usize,
-    count: usize,
+pub(crate) struct Run {
+    pub(crate) from: usize,
+    pub(crate) count: usize,
 }
 
 impl Run {
     // Step `j` of the steps of this run and then those of another.
-    fn step(self, then: Run, j: usize) -> usize
+    pub(crate) fn step(self, then: Run, j: usize) -> usize
         requires { ⌜ (j < self .count + then .count) × (self .from + self .count ≤ 65536) × (then .from + then .count ≤ 65536) ⌝ }
         ensures { λ r. ⌜ (r ≡ stepOf self then j) × (r ≤ 65536) ⌝ }
     {

@@ -2,7 +2,10 @@
 // controller's numbers that go with it.
 pub mod ack;
 pub mod answer;
+pub mod lent;
 pub mod lost;
+mod places;
 pub mod read;
+mod samples;
 pub mod state;
 pub mod transmit;

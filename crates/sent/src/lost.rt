@@ -20,7 +20,7 @@ ghost use Rattle.sent.specs.State.{readOf, whenStateSound, trackerOf};
 
 impl Packet {
     // What it adds to the count of lost packets.
-    fn lost_one(self) -> u32
+    pub(crate) fn lost_one(self) -> u32
         ensures { λ r. ⌜ r ≡ lostOne self ⌝ }
     {
         if self.lost == 0 { 0 } else { 1 }
@@ -28,7 +28,7 @@ impl Packet {
 }
 
 // The type of a number up to 4.
-fn type_of(kind: u8) -> PacketType
+pub(crate) fn type_of(kind: u8) -> PacketType
     ensures { λ r. ⌜ r ≡ typeOf kind ⌝ }
 {
     match kind {
@@ -78,7 +78,7 @@ fn lost_place(packets: [Packet; 512], from: usize, to: usize, position: u32) -> 
 }
 
 // The first place whose number is past the wrap, or `live` where none is.
-fn wrap_place(initial: u16, gone: u32, live: u32) -> usize
+pub(crate) fn wrap_place(initial: u16, gone: u32, live: u32) -> usize
     requires { ⌜ (gone ≤ 60000) × (live ≤ 512) ⌝ }
     ensures { λ r. ⌜ r ≡ wrapPlace initial gone live ⌝ }
 {

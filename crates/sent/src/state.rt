@@ -56,7 +56,7 @@ impl Packet {
     }
 
     // What it adds to the bytes in flight.
-    fn flying(self) -> u32
+    pub(crate) fn flying(self) -> u32
         ensures { λ r. ⌜ r ≡ flyingOf self ⌝ }
     {
         if self.acked == 0 { self.len } else { 0 }
@@ -77,7 +77,7 @@ impl Packet {
     }
 
     // Does it pass the soundness test, `later` of those behind it being acknowledged?
-    fn sound(self, later: u32, last: u64) -> bool
+    pub(crate) fn sound(self, later: u32, last: u64) -> bool
         ensures { λ r. ⌜ r ≡ packetSoundOf last self later ⌝ }
     {
         let mark = self.lost_mark(later);
@@ -90,9 +90,9 @@ impl Packet {
 }
 
 // What a walk over the kept packets finds.
-struct Walk {
-    fine: bool,
-    in_flight: u64,
+pub(crate) struct Walk {
+    pub(crate) fine: bool,
+    pub(crate) in_flight: u64,
 }
 
 // Do the kept packets pass the soundness test, and how many bytes are in flight? From the back, so

@@ -17,7 +17,7 @@ ghost use Rattle.sent.specs.Transmit.{transmitCheck, resentOf, recordedO
 ghost use Rattle.sent.specs.State.{stateSoundOf, whenStateSound, trackerOf, writtenOf, transmitAnswer};
 
 // The checks of a transmit, in their order: 11, 12, and of a first one 15, 13, 14.
-fn transmit_check(
+pub(crate) fn transmit_check(
     numbers: Numbers,
     count: u32,
     live: u32,
@@ -57,7 +57,7 @@ fn transmit_check(
 
 impl Packet {
     // Sent again.
-    fn sent_again(self) -> Packet
+    pub(crate) fn sent_again(self) -> Packet
         ensures { λ r. ⌜ r ≡ withResent self ⌝ }
     {
         let mut next = self;

@@ -12,6 +12,8 @@ use Rattle.sent.specs.declared.answer.Reason.the-variants.{BadSack, BadS
 use Rattle.sent.specs.declared.answer.Outcome.{Outcome}
 use Rattle.sent.specs.declared.answer.Outcome.the-variants.{Done, Refused}
 use Rattle.sent.specs.declared.answer.Tracked.{Tracked}
+use Rattle.sent.specs.declared.lent.Head.{Head}
+use Rattle.sent.specs.declared.lent.Stepped.{Stepped}
 use Rattle.sent.specs.declared.answer.NumberTold.{NumberTold}
 use Rattle.sent.specs.declared.answer.NumberTold.the-variants.{Number, Refused as NumberRefused}
 use Rattle.sent.specs.declared.answer.SeqTold.{SeqTold}
@@ -23,6 +25,7 @@ use Rattle.sent.specs.declared.answer.TruthTold.the-variants.{Truth, Ref
 use Rattle.sent.specs.declared.answer.LostTold.{LostTold}
 use Rattle.sent.specs.declared.answer.LostTold.the-variants.{Lost, Refused as LostRefused}
 use Rattle.sent.specs.Answers.{reasonNumber, outcome, told, numberTold, seqTold, rangeTold, truthTold, lostTold}
+use Rattle.sent.specs.Lent.{stepped}
 
 -- the reason of a number
 abbrev reasonOf : ℕ → Reason
@@ -59,6 +62,11 @@ pub told-one : (x y : Tracked) → told x ≡ told y → x ≡ y
 told-one x y e =
     ap₂ (λ (a : Outcome) (s : SentPackets). record { answer = a; state = s }) (outcome-one (x .answer) (y .answer) (ap (λ (p : Answer (Unit {0}) × SentPackets). p .0) e))
     (ap (λ (p : Answer (Unit {0}) × SentPackets). p .1) e)
+
+pub stepped-one : (x y : Stepped) → stepped x ≡ stepped y → x ≡ y
+stepped-one x y e =
+    ap₂ (λ (a : Outcome) (h : Head). record { answer = a; head = h }) (outcome-one (x .answer) (y .answer) (ap (λ (p : Answer (Unit {0}) × Head). p .0) e))
+    (ap (λ (p : Answer (Unit {0}) × Head). p .1) e)
 
 pub number-one : (x y : NumberTold) → numberTold x ≡ numberTold y → x ≡ y
 number-one (Number n) (Number n′) e = let q : n ≡ n′ = cc in ap Number q
