@@ -522,7 +522,9 @@ impl ReceiveBuffer {
         if n > room.len() {
             return Count::Refused(Refusal::RoomTooSmall);
         }
-        sack::fill(&self.waiting, span, room, n);
+        let initial = self.initial;
+        let ack = initial.plus((self.count % 65536) as u16);
+        sack::fill(&self.waiting, span, ack, room, n);
         Count::Is(n)
     }
 

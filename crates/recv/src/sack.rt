@@ -1,9 +1,12 @@
 // The selective ACK, built plainly, bit by bit, from the table of waiting lengths.
+use packet::seq::Offset;
+use packet::seq::SeqNum;
 ghost use mathlib.Core.Path.{_≡_};
 ghost use mathlib.Core.Bool.{cond};
 ghost use Prim.Native.Nat.{_+_, _-_, _*_, _/_, _≤_, _<_};
 ghost use lib.ListN.{length, take, getD};
 ghost use lib.Seq.{paste};
+ghost use Rattle.packet.specs.Seq.{offsetOf};
 ghost use Rattle.recv.specs.Table.{waits, sackByteOf, sackLengthOf, sackOf};
 
 // How many bytes the selective ACK of a table of `span` places has: its bits padded to 32.
@@ -12,6 +15,23 @@ pub(crate) fn length_for(span: usize) -> usize
     ensures { λ r. ⌜ r ≡ (span - 1 + 31) / 32 * 4 ⌝ }
 {
     (span + 30) / 32 * 4
+}
+
+// How far past the ack number a number lies, in circular order.
+fn past(number: SeqNum, ack: SeqNum) -> Offset
+    ensures { λ r. ⌜ r ≡ offsetOf number ack ⌝ }
+{
+    number.offset_from(ack)
+}
+
+// The place in the table that bit `i` stands for, which is that of the number ack + 2 + i. Place 0 is
+// that of ack + 1, which never waits.
+fn place_of(ack: SeqNum, i: usize) -> usize
+    requires { ⌜ i < 2048 ⌝ }
+    ensures { λ r. ⌜ r ≡ i + 1 ⌝ }
+{
+    let number = ack.plus((i + 2) as u16);
+    past(number, ack).0 as usize - 1
 }
 
 // 1 where a payload waits at `place`, else 0.
@@ -28,8 +48,8 @@ fn bit(waiting: &[u32; 256], span: usize, place: usize) -> u64
     1
 }
 
-// Byte `k`, from its highest bit to its lowest. Bit 0 of all stands at place 1 of the table.
-fn byte(waiting: &[u32; 256], span: usize, k: usize) -> u8
+// Byte `k`, from its highest bit to its lowest.
+fn byte(waiting: &[u32; 256], span: usize, ack: SeqNum, k: usize) -> u8
     requires { ⌜ (span ≤ 256) × (k < 256) ⌝ }
     ensures { λ r. ⌜ r ≡ sackByteOf (take span (now (waiting .entry))) k ⌝ }
 {
@@ -37,19 +57,20 @@ fn byte(waiting: &[u32; 256], span: usize, k: usize) -> u8
     let mut left: usize = 8;
     while left > 0 {
         left -= 1;
-        value = bit(waiting, span, 8 * k + left + 1) + 2 * value;
+        let place = place_of(ack, 8 * k + left);
+        value = bit(waiting, span, place) + 2 * value;
     }
     value as u8
 }
 
 // Writes the `count` bytes of the selective ACK into the front of `room`.
-pub(crate) fn fill(waiting: &[u32; 256], span: usize, room: &mut [u8], count: usize)
+pub(crate) fn fill(waiting: &[u32; 256], span: usize, ack: SeqNum, room: &mut [u8], count: usize)
     requires { ⌜ (span ≤ 256) × (count ≤ length (now room)) × (count ≡ sackLengthOf (take span (now waiting))) × (count ≤ 256) ⌝ }
     ensures { λ _. ⌜ now (room .exit) ≡ paste (now (room .entry)) 0 (sackOf (take span (now (waiting .entry)))) count ⌝ }
 {
     let mut k: usize = 0;
     while k < count {
-        room[k] = byte(waiting, span, k);
+        room[k] = byte(waiting, span, ack, k);
         k += 1;
     }
 }

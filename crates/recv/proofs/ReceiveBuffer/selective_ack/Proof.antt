@@ -47,20 +47,26 @@ returns-2 c =
     let short : length (a .room .now) < length (sackOf (tableOf (a .t1))) = omega (arith, size, c .if2 .taken) in
     (small-acked (a .t1) (a .room .now) (sound-at (c .before .before)) short, small-acked-room (a .t1) (a .room .now) (sound-at (c .before .before)) short)
 
+cast-plus : tie.Need-cast-plus
+cast-plus c = search needs
+
+plus-requires : tie.Need-plus-requires
+plus-requires c κs = search needs
+
 fill-requires : tie.Need-fill-requires
 fill-requires c κs =
-    let sound = sound-facts _ (sound-at (c .before .before .before .before .before)) in
-    (sound .places, c .before .before .before .if2 .left, is-length (c .before .before .before .before), omega (arith, sound .places, c .before .before .before .before .length-for .ensures))
+    let sound = sound-facts _ (sound-at (c .before .before .before .before .before .before .before)) in
+    (sound .places, c .before .before .before .before .before .if2 .left, is-length (c .before .before .before .before .before .before), omega (arith, sound .places, c .before .before .before .before .before .before .length-for .ensures))
 
 same-length : tie.Need-same-length
 same-length c = search needs
 
 returns-3 : tie.Need-returns-3
 returns-3 c =
-    let a = c .before .before .before .before .before .before .before .before .before .before .before .args in
-    let size = is-length (c .before .before .before .before .before .before .before) ∙ sym (length-sack (tableOf (a .t1))) in
-    let fits = c .before .before .before .before .before .before .if2 .left in
-    (done-acked (a .t1) (a .room .now) (sound-at (c .before .before .before .before .before .before .before .before)) _ size fits, done-acked-room (a .t1) (a .room .now) (sound-at (c .before .before .before .before .before .before .before .before)) _ size fits _ (c .before .before .fill .ensures))
+    let a = c .before .before .before .before .before .before .before .before .before .before .before .before .before .args in
+    let size = is-length (c .before .before .before .before .before .before .before .before .before) ∙ sym (length-sack (tableOf (a .t1))) in
+    let fits = c .before .before .before .before .before .before .before .before .if2 .left in
+    (done-acked (a .t1) (a .room .now) (sound-at (c .before .before .before .before .before .before .before .before .before .before)) _ size fits, done-acked-room (a .t1) (a .room .now) (sound-at (c .before .before .before .before .before .before .before .before .before .before)) _ size fits _ (c .before .before .fill .ensures))
 
 pub selective-ack-spec : {M : Type 1} → statement M
 selective-ack-spec =
@@ -71,6 +77,8 @@ selective-ack-spec =
     cast-span
     length-for-requires
     returns-2
+    cast-plus
+    plus-requires
     fill-requires
     same-length
     returns-3)

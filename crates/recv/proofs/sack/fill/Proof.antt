@@ -14,10 +14,10 @@ use Rattle.recv.proofs.sack.fill.Statement.{statement}
 use Rattle.recv.proofs.sack.fill.Tie as tie
 
 abbrev Inv-loop : tie.InvT-loop
-Inv-loop waiting span room₀ count k₀ room k = (k ≤ count) × (room ≡ paste room₀ 0 (sackOf (take span waiting)) k) × (length room ≡ length room₀)
+Inv-loop waiting span ack room₀ count k₀ room k = (k ≤ count) × (room ≡ paste room₀ 0 (sackOf (take span waiting)) k) × (length room ≡ length room₀)
 
 abbrev μ-loop : tie.MeasureT-loop
-μ-loop waiting span room₀ count k₀ room k = count - k
+μ-loop waiting span ack room₀ count k₀ room k = count - k
 
 loop-holds : tie.Need-loop-holds Inv-loop μ-loop
 loop-holds c =
