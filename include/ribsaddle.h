@@ -5,7 +5,7 @@
  * the length is 0, too). Nothing is kept of it after the call. Any bits are a state: one that is not sound is refused with RIBSADDLE_NOT_SOUND.
  * The bytes of padding between the fields of a struct are no part of it, and may change.
  * Times are whole microseconds, 0 to 2^50, sizes are bytes. Nothing is allocated. There is no global state: calls on different states may run at the same time.
- * A call on a tracker takes up to 200 KB of stack, any other less than 8 KB.
+ * A tracker is worked on where it lies. ribsaddle_sent_new takes up to 100 KB of stack, a call that reads a tracker up to 64 KB, any other less than 8 KB.
  */
 #ifndef RIBSADDLE_H
 #define RIBSADDLE_H
@@ -81,11 +81,14 @@ uint32_t ribsaddle_encode(const ribsaddle_header *header, const uint8_t *sack, s
 
 /* ---- the tracker of sent packets */
 
-/* 28,776 bytes, aligned to 8. The fields are for a debugger: what they mean is in crates/sent/src/state.rt, and the functions below tell what there is to know. */
+/* 26,720 bytes, aligned to 8: counts, the controller's numbers, and then each array by itself. The fields are for a debugger: what they mean is in docs/STATE.md, and the
+ * functions below tell what there is to know. Of the packets that were sent, the last `live` are kept: what `times`, `sizes` and `marks` have at the same place, from 0 on,
+ * is of one packet. Of the samples, `kept` are kept. What stands past those is left as it was. */
 typedef struct ribsaddle_sent {
     uint16_t initial;
     uint32_t count;
     uint32_t live;
+    uint32_t kept;
     struct {
         uint32_t target, largest_packet, increase, maximum, in_flight;
         uint64_t minimum_timeout, delay_window;
@@ -93,16 +96,15 @@ typedef struct ribsaddle_sent {
         uint64_t trip, variance, timeout, last;
     } numbers;
     struct {
-        struct {
-            uint64_t delay, at;
-        } kept[1024];
-        uint32_t count;
-    } delays;
+        uint64_t delay, at;
+    } samples[1024];
+    uint64_t times[512];            /* when the packet was first sent */
     struct {
-        uint64_t sent_at;
         uint32_t tag, len;
+    } sizes[512];
+    struct {
         uint8_t kind, acked, lost, resent;
-    } packets[512];
+    } marks[512];
 } ribsaddle_sent;
 
 /* A fresh tracker, whose first packet has the number after initial. Refuses with 10.

@@ -2,7 +2,7 @@
 """Writes the proofs of the functions that crates/ribsaddle exports: the walk of each form and shape (tools/walk.py, and tools/part.py for the form Part), and for each function the lines that cite its walk.
 
 A row: module, function, form, shape, callee, state, what it returns besides an answer, the types of the parameters and of the answer, and the definitions of the
-callee's contract: of its result, and of each memory lent to it, in the order of the parameters. Of the form Part is the receiver in two parts: its definitions are of the whole.
+callee's contract: of its result, and of each memory lent to it, in the order of the parameters. Of the form Part is a state in parts: its definitions are of the whole. PartR: the callee asks for the lengths of the arrays.
 """
 import pathlib
 import re
@@ -15,17 +15,21 @@ OWN = "Rattle.ribsaddle.specs."
 HOMES = {
     OWN + "Answer": "numberOf partOr valueOr bitOf",
     OWN + "Codec": "readingOf writingOf writingRoomOf writingSizeOf",
-    OWN + "Tracker": "seqOf startOf endOf lostNumberOf lostTypeOf lostTagOf newOf transmitOf ackOf timeoutOf soundNumberOf lostAnswer",
+    OWN + "Parts": "countingOf wholeIn wholeOf partsOf",
+    OWN + "declared.receiver.Receiver": "Receiver",
+    OWN + "declared.tracker.Tracker": "Tracker",
+    OWN + "Tracker": "wholeOf partsOf Sized headingOf seqOf startOf endOf lostNumberOf lostTypeOf lostTagOf newOf transmitOf ackOf timeoutOf soundNumberOf lostAnswer",
     OWN + "Receiver": "countAnswer truthAnswer numberAnswer newOf writeOf readOf takenCountOf sackAnswer",
     "Rattle.sent.specs.State": "readOf",
+    "Rattle.sent.specs.Lent": "wholeIn pairsOf timesOf sizesOf marksOf",
     "Rattle.sent.specs.Read": "timeoutIn windowIn inFlightIn maximumIn ackNumIn nextSeqNumIn seqNumRangeIn hasUnackedIn lostCountIn hasLostIn",
     "Rattle.recv.specs.State": "countedOf toldOf numberedOf ackOf writtenBefore emptyOf tableOf",
     "Rattle.recv.specs.Table": "bytesIn howMany freeOf",
     "Rattle.recv.specs.Calls": "writtenRoomOf takenRoomOf takenOutOf ackedRoomOf",
 }
 HIDDEN = {                                       # names that a module of the crate takes from elsewhere
-    "tracker": {OWN + "Receiver", "Rattle.recv.specs.State", "Rattle.recv.specs.Table", "Rattle.recv.specs.Calls"},
-    "receiver": {"Rattle.sent.specs.State", "Rattle.sent.specs.Read"},
+    "tracker": {OWN + "Parts", OWN + "Receiver", "Rattle.recv.specs.State", "Rattle.recv.specs.Table", "Rattle.recv.specs.Calls"},
+    "receiver": {"Rattle.sent.specs.State", "Rattle.sent.specs.Lent", "Rattle.sent.specs.Read"},
     "codec": set(),
 }
 
@@ -38,18 +42,18 @@ def told(kind, answer):
 ROWS = [
     ("codec", "decode", "Mut", "s", "read", "packet-fields", "reading", "w8 w32", ["readingOf"]),
     ("codec", "encode", "Ref", "ssmr", "write", "header-fields", "", "w8 w8 w8 w64 w32", ["(λ h s p r n. numberOf (writingOf h s p r))", "(λ h s p r n. writingRoomOf h s p r)", "writingSizeOf"]),
-    ("tracker", "sent_new", "Mut", "nnnnnnnn", "create", "tracker", "tracking", "w16 w64 w64 w64 w64 w64 w64 f64 w32", ["newOf"]),
-    ("tracker", "sent_transmit", "Mut", "nnnnn", "transmit", "tracker", "tracking", "w16 w8 w32 w32 w64 w32", ["transmitOf"]),
-    ("tracker", "sent_ack", "Mut", "nsnn", "ack", "tracker", "tracking", "w16 w8 w64 w64 w32", ["ackOf"]),
-    ("tracker", "sent_on_timeout", "Mut", "0", "time_out", "tracker", "tracking", "w32", ["timeoutOf"]),
-    ("tracker", "sent_sound", "Ref", "0", "soundness", "tracker", "", "w32", ["soundNumberOf"]),
-    *[("tracker", "sent_" + name, "Ref", "r", name, "tracker", "", "w64 w32", told("valueOr", f"readOf s {reads}"))
+    ("tracker", "sent_new", "Mut", "nnnnnnnn", "create", "tracker", "starting", "w16 w64 w64 w64 w64 w64 w64 f64 w32", ["newOf"]),
+    ("tracker", "sent_transmit", "PartR", "nnnnn", "transmit", "head", "heading", "w16 w8 w32 w32 w64 w32", ["transmitOf"]),
+    ("tracker", "sent_ack", "Part", "nsnn", "ack", "head", "heading", "w16 w8 w64 w64 w32", ["ackOf"]),
+    ("tracker", "sent_on_timeout", "PartR", "0", "time_out", "head", "heading", "w32", ["timeoutOf"]),
+    ("tracker", "sent_sound", "Ref", "0", "soundness", "tracker", "", "w32", ["(λ s. soundNumberOf (wholeOf s))"]),
+    *[("tracker", "sent_" + name, "Ref", "r", name, "tracker", "", "w64 w32", told("valueOr", f"readOf (wholeOf s) {reads}"))
       for name, reads in [("timeout", "timeoutIn"), ("window", "windowIn"), ("in_flight", "inFlightIn"), ("maximum", "maximumIn"), ("lost_count", "lostCountIn")]],
-    *[("tracker", "sent_" + name, "Ref", "r", name, "tracker", "", "w64 w32", told("partOr seqOf", f"readOf s {reads}")) for name, reads in [("ack_num", "ackNumIn"), ("next_seq_num", "nextSeqNumIn")]],
-    *[("tracker", "sent_" + name, "Ref", "r", name, "tracker", "", "w64 w32", told("partOr bitOf", f"readOf s {reads}")) for name, reads in [("has_unacked", "hasUnackedIn"), ("has_lost", "hasLostIn")]],
-    ("tracker", "sent_range", "Ref", "rr", "range", "tracker", "", "w64 w64 w32", ["(λ s a b. numberOf (readOf s seqNumRangeIn))", "(λ s a b. partOr startOf a (readOf s seqNumRangeIn))", "(λ s a b. partOr endOf b (readOf s seqNumRangeIn))"]),
+    *[("tracker", "sent_" + name, "Ref", "r", name, "tracker", "", "w64 w32", told("partOr seqOf", f"readOf (wholeOf s) {reads}")) for name, reads in [("ack_num", "ackNumIn"), ("next_seq_num", "nextSeqNumIn")]],
+    *[("tracker", "sent_" + name, "Ref", "r", name, "tracker", "", "w64 w32", told("partOr bitOf", f"readOf (wholeOf s) {reads}")) for name, reads in [("has_unacked", "hasUnackedIn"), ("has_lost", "hasLostIn")]],
+    ("tracker", "sent_range", "Ref", "rr", "range", "tracker", "", "w64 w64 w32", ["(λ s a b. numberOf (readOf (wholeOf s) seqNumRangeIn))", "(λ s a b. partOr startOf a (readOf (wholeOf s) seqNumRangeIn))", "(λ s a b. partOr endOf b (readOf (wholeOf s) seqNumRangeIn))"]),
     ("tracker", "sent_lost_at", "Ref", "nrrr", "lost_at", "tracker", "", "w32 w64 w64 w64 w32",
-     ["(λ s p a b d. numberOf (lostAnswer s p))", "(λ s p a b d. partOr lostNumberOf a (lostAnswer s p))", "(λ s p a b d. partOr lostTypeOf b (lostAnswer s p))", "(λ s p a b d. partOr lostTagOf d (lostAnswer s p))"]),
+     ["(λ s p a b d. numberOf (lostAnswer (wholeOf s) p))", "(λ s p a b d. partOr lostNumberOf a (lostAnswer (wholeOf s) p))", "(λ s p a b d. partOr lostTypeOf b (lostAnswer (wholeOf s) p))", "(λ s p a b d. partOr lostTagOf d (lostAnswer (wholeOf s) p))"]),
     ("receiver", "recv_new", "Mut", "nn", "create", "receiver", "receiving", "w16 w64 w32", ["newOf"]),
     ("receiver", "recv_write", "Part", "mns", "write", "counts", "counting", "w8 w16 w8 w32", ["writeOf", "(λ s b n p. writtenRoomOf s b (record { 0 = n }) p)"]),
     ("receiver", "recv_read", "Part", "mmr", "read", "counts", "counting", "w8 w8 w64 w32",
@@ -70,34 +74,67 @@ ROWS = [
 ]
 
 
-def file(form, shape):
-    """The walk's file: a receiver in two parts has its counts by value, and its table lent."""
-    return f"{form}_vl_{shape}" if form == "Part" else f"{form}_{shape}"
+# A state in parts: a letter for each field (tools/part.py); what its walk is given of it, as States.antt names it; how the whole is made of the head and the lent fields; and, of the whole's
+# definition, the answer with the head and each lent field. Then the laws that carry these over, and for PartR what the callee asks and the law that it holds.
+IN_PARTS = {
+    "receiver": {
+        "fields": "vl",
+        "given": ["counts", "receiver-name", "table", "Receiver", "receiver-to", "receiver-one", "(λ t. t .counts)", "(λ t. refl)", "receiver-lawful"],
+        "lent": "w", "result": "countingOf ({})", "sets": ["{} .state .waiting"], "stored": "stored", "next": "next-is",
+    },
+    "tracker": {
+        "fields": "vllll",
+        "given": ["head", "tracker-name", "samples", "times", "sizes", "marks", "Tracker", "tracker-to", "tracker-one", "(λ t. t .head)", "(λ t. refl)", "tracker-lawful"],
+        "lent": "w x y z", "result": "headingOf ({})",
+        "sets": ["pairsOf ({} .state .delays .kept)", "timesOf ({} .state .packets)", "sizesOf ({} .state .packets)", "marksOf ({} .state .packets)"],
+        "stored": "sent-stored", "next": "sent-next", "asks": "Sized", "holds": "sized",
+    },
+}
 
 
-def applied(form, shape, state, out, kinds, key, specs):
+def file(module, form, shape):
+    """The walk's file."""
+    return f"{form}_{IN_PARTS[module]['fields']}_{shape}" if form.startswith("Part") else f"{form}_{shape}"
+
+
+def applied(module, form, shape, state, out, kinds, key, specs):
     """What a walk is given, and the names of States.antt among it."""
-    if form != "Part":
+    if not form.startswith("Part"):
         return " ".join([state, *kinds] + ([out] if out else []) + [key, *specs]), [state] + ([out] if out else [])
-    ys = " ".join(f"y{i}" for i in range(1, len(shape) + 1))
+    parts = IN_PARTS[module]
+    count = 0 if shape == "0" else len(shape)
+    ys = "".join(f" y{i}" for i in range(1, count + 1))
 
     def of(f, s):
         if not f.startswith("("):
-            return f"{f} {s} {ys}"
+            return f"{f} {s}{ys}"
         names, text = f[2:-1].split(".", 1)
         put = dict(zip(names.split(), [s] + ys.split()))
         return re.sub(r"\b\w+\b", lambda m: put.get(m[0], m[0]), text.strip())
 
     result, *fills = specs
+    lent = parts["lent"]
+    whole = f"(wholeIn c {lent})"
     after = [(result, " .answer"), (result, " .state"), *((f, "") for f in fills)]
-    in_parts = [f"(λ c w {ys}. countingOf ({of(result, '(wholeIn c w)')}))", f"(λ c w {ys}. {of(result, '(wholeIn c w)')} .state .waiting)", *(f"(λ c w {ys}. {of(f, '(wholeIn c w)')})" for f in fills)]
-    in_whole = [f"(λ t {ys}. {'partsOf (' * (end == ' .state')}{of(f, '(wholeOf t)')}{end}{')' * (end == ' .state')})" for f, end in after]
-    ties = [f"(λ t {ys}. {'next-is' if end == ' .state' else 'stored'} t (λ s. {of(f, 's')}{end}))" for f, end in after]
-    return " ".join(["counts receiver-name table Receiver receiver-to receiver-one (λ t. t .counts) (λ t. refl) receiver-lawful", *kinds, out, key, *in_parts, *in_whole, *ties]), PARTS
+    asks = [f"(λ c {lent}{ys}. {parts['asks']} {lent})"] if form == "PartR" else []
+    in_parts = [f"(λ c {lent}{ys}. {x.format(of(result, whole))})" for x in [parts["result"], *parts["sets"]]] + [f"(λ c {lent}{ys}. {of(f, whole)})" for f in fills]
+    in_whole = [f"(λ t{ys}. {'partsOf (' * (end == ' .state')}{of(f, '(wholeOf t)')}{end}{')' * (end == ' .state')})" for f, end in after]
+    ties = [f"(λ t{ys}. {parts['next' if end == ' .state' else 'stored']} t (λ s. {of(f, 's')}{end}))" for f, end in after]
+    holds = [f"(λ t{ys}. {parts['holds']} t)"] if form == "PartR" else []
+    states = [x for x in parts["given"] if x[0].islower()] + [out, parts["stored"], parts["next"]] + ([parts["holds"]] if holds else [])
+    return " ".join([*parts["given"], *kinds, out, key, *asks, *in_parts, *in_whole, *ties, *holds]), sorted(states)
 
 
-PARTS = ["counting", "counts", "next-is", "receiver-lawful", "receiver-name", "receiver-one", "receiver-to", "stored", "table"]
-PART_USES = ["use mathlib.Core.Path.{refl}", "use Rattle.ribsaddle.specs.declared.receiver.Receiver.{Receiver}", "use Rattle.ribsaddle.specs.Parts.{countingOf, partsOf, wholeIn, wholeOf}"]
+def named_in(module, given):
+    """The homes of what is named in a text, with the names: each name from its first home that the module sees."""
+    words = set(re.findall(r"\w+", given))
+    for home, names in HOMES.items():
+        found = [n for n in names.split() if n in words and home not in HIDDEN[module]]
+        if module == "receiver" and home == OWN + "Tracker":
+            found = [n for n in found if n == "seqOf"]
+        if found:
+            words -= set(found)
+            yield home, found
 
 
 def proof(module, name, form, shape, callee, state, out, types, specs):
@@ -106,22 +143,15 @@ def proof(module, name, form, shape, callee, state, out, types, specs):
     args = types.split()
     kind = lambda x: "(float binary64)" if x == "f64" else f"(uint {x})"
     widths = sorted({x for x in args if x[0] == "w"}, key=lambda x: int(x[1:]))
-    words = set(re.findall(r"\w+", " ".join(specs)))
-    uses = (PART_USES if form == "Part" else []) + [f"use mir.Syntax.{{{', '.join(widths)}}}"]
+    given, states = applied(module, form, shape, state, out, [kind(x) for x in args], "callee.name", specs)
+    uses = ["use mathlib.Core.Path.{refl}"] * form.startswith("Part") + [f"use mir.Syntax.{{{', '.join(widths)}}}"]
     if "f64" in args:
         uses.append("use lib.Ieee.{binary64}")
-    for home, names in HOMES.items():
-        found = [n for n in names.split() if n in words and home not in HIDDEN[module]]
-        if module == "receiver" and home == OWN + "Tracker":
-            found = [n for n in found if n == "seqOf"]
-        if found:
-            words -= set(found)
-            uses.append(f"use {home}.{{{', '.join(found)}}}")
+    uses += [f"use {home}.{{{', '.join(found)}}}" for home, found in named_in(module, given)]
     uses += [f"use {here}{callee}.Symbol as callee", f"use {here}{callee}.Met as callee-thm"]
     uses.append(f"use Rattle.ribsaddle.proofs.Behind.{{{'float, ' if 'f64' in args else ''}uint}}")
-    given, states = applied(form, shape, state, out, [kind(x) for x in args], "callee.name", specs)
     uses.append(f"use Rattle.ribsaddle.proofs.States.{{{', '.join(states)}}}")
-    uses.append(f"use Rattle.ribsaddle.proofs.{file(form, shape)} as walk")
+    uses.append(f"use Rattle.ribsaddle.proofs.{file(module, form, shape)} as walk")
     uses += [f"use {here}{fn}.Key as key", f"use {here}{fn}.Statement as stated", f"use {here}{fn}.Code as code"]
     dash = fn.replace("_", "-")
     return "\n".join([
@@ -136,42 +166,39 @@ def proof(module, name, form, shape, callee, state, out, types, specs):
 
 def promises():
     """The file Promises.antt: a record for each function, in the order of the rows."""
-    uses = [*PART_USES, "use mir.Syntax.{w8, w16, w32, w64}", "use lib.Ieee.{binary64}"]
+    uses = ["use mathlib.Core.Path.{refl}", "use mir.Syntax.{w8, w16, w32, w64}", "use lib.Ieee.{binary64}"]
     named = {"newOf": {"tracker": "newOf as sent-new", "receiver": "newOf as recv-new"}, "ackOf": {"tracker": "ackOf as sent-ack", "receiver": "ackOf as recv-ack"},
-             "readOf": {"tracker": "readOf as sent-read", "receiver": "readOf as recv-read"}}
+             "readOf": {"tracker": "readOf as sent-read", "receiver": "readOf as recv-read"}, "wholeIn": {"tracker": "wholeIn as sent-in", "receiver": "wholeIn as recv-in"},
+             "wholeOf": {"tracker": "wholeOf as sent-whole", "receiver": "wholeOf as recv-whole"}, "partsOf": {"tracker": "partsOf as sent-parts", "receiver": "partsOf as recv-parts"}}
     lines = []
     needed, states = {}, set()
     for module, name, form, shape, callee, state, out, types, specs in ROWS:
-        words = set(re.findall(r"\w+", " ".join(specs)))
-        for home, names in HOMES.items():
-            if home in HIDDEN[module]:
-                continue
-            for n in names.split():
-                if n in words and not (module == "receiver" and home == OWN + "Tracker" and n != "seqOf"):
-                    words.discard(n)
-                    needed.setdefault(home, set()).add(named.get(n, {}).get(module, n))
-                    if n in named:
-                        specs = [re.sub(rf"\b{n}\b", named[n][module].split()[-1], x) for x in specs]
         dash = name.replace("_", "-")
         kind = lambda x: "(float binary64)" if x == "f64" else f"(uint {x})"
-        given, more = applied(form, shape, state, out, [kind(x) for x in types.split()], f"{dash}-key.name", specs)
+        given, more = applied(module, form, shape, state, out, [kind(x) for x in types.split()], f"{dash}-key.name", specs)
+        for home, found in list(named_in(module, given)):
+            for n in found:
+                needed.setdefault(home, set()).add(named.get(n, {}).get(module, n))
+                if n in named:
+                    given = re.sub(rf"\b{n}\b", named[n][module].split()[-1], given)
         states |= set(more)
         uses += [f"use Rattle.ribsaddle.proofs.{module}.ribsaddle_{name} as {dash}", f"use Rattle.ribsaddle.proofs.{module}.ribsaddle_{name}.Key as {dash}-key"]
-        walk = f"{form}-{shape}"
+        walk = file(module, form, shape).replace("_", "-")
         lines += ["", f"{dash}-promise : Exported {dash}.ended (λ M 𝓤. {dash}.clauses 𝓤) ({walk}.seen {given})",
                   f"{dash}-promise = record {{ post = {walk}.Post {given}; asks-nothing = λ M 𝓤 H A mem run κs a g. refl; says = λ M 𝓤 H A mem run κs a g r e. refl; promise = {walk}.promise {given} }}"]
     uses += [f"use {home}.{{{', '.join(sorted(needed[home]))}}}" for home in HOMES if home in needed]
     uses += ["use Rattle.ribsaddle.proofs.Behind.{float, uint}", "use Rattle.ribsaddle.proofs.Exported.{Exported}",
              f"use Rattle.ribsaddle.proofs.States.{{{', '.join(sorted(states))}}}"]
-    uses += [f"use Rattle.ribsaddle.proofs.{file(form, shape)} as {form}-{shape}" for form, shape in sorted({(row[2], row[3]) for row in ROWS})]
+    uses += [f"use Rattle.ribsaddle.proofs.{walk} as {walk.replace('_', '-')}" for walk in sorted(WALKS)]
     head = "-- Every exported function, in the order of the source: nothing is asked of its caller, and no two different outcomes satisfy its promise. An outcome is the answer together with all memory lent to be written."
     return "\n".join([head] + uses + lines) + "\n"
 
 
-for form, shape in sorted({(row[2], row[3]) for row in ROWS}):
-    by = ["part.py", "ribsaddle", "vl"] if form == "Part" else ["walk.py", "ribsaddle", form]
-    walk = subprocess.run([sys.executable, ROOT / "tools" / by[0], *by[1:], shape], check=True, capture_output=True, text=True).stdout
-    (PROOFS / f"{file(form, shape)}.antt").write_text(walk)
+WALKS = {file(row[0], *row[2:4]): (row[0], *row[2:4]) for row in ROWS}
+for name, (module, form, shape) in WALKS.items():
+    by = ["part.py", "ribsaddle", IN_PARTS[module]["fields"], shape, *["R"] * (form == "PartR")] if form.startswith("Part") else ["walk.py", "ribsaddle", form, shape]
+    walk = subprocess.run([sys.executable, ROOT / "tools" / by[0], *by[1:]], check=True, capture_output=True, text=True).stdout
+    (PROOFS / f"{name}.antt").write_text(walk)
 for row in ROWS:
     folder = PROOFS / row[0] / ("ribsaddle_" + row[1])
     folder.mkdir(parents=True, exist_ok=True)

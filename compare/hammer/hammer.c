@@ -94,11 +94,7 @@ static void unchanged_sent(const ribsaddle_sent *now, uint8_t *before)
     for (int twice = 0; twice < 2; twice++) {
         uint8_t *at = (uint8_t *)(twice ? b : a);
         memset(at + 2, 0, 2);
-        memset(at + 12, 0, 4);
         memset(at + 36, 0, 4);
-        memset(at + 16484, 0, 4);
-        for (int place = 0; place < 512; place++)
-            memset(at + 16488 + 24 * place + 20, 0, 4);
     }
     unchanged("the tracker was changed", a, before, sizeof *a);
     free(a);
@@ -361,12 +357,12 @@ static void recv_calls(void)
     }
 }
 
-/* Some bytes of a state become others: near its front, at the packets, or anywhere. */
+/* Some bytes of a state become others: near its front, at the packets' times, sizes or marks, or anywhere. */
 static void forge(void *state, size_t size)
 {
     for (int count = 1 + next() % 3; count; count--) {
         uint8_t b = next();
-        size_t at = b < 100 ? next() % 96 : b < 160 ? 16488 + number(2) % 600 : number(2);
+        size_t at = b < 100 ? next() % 96 : b < 120 ? 16480 + number(2) % 200 : b < 140 ? 20576 + number(2) % 200 : b < 160 ? 24672 + number(2) % 100 : number(2);
         ((uint8_t *)state)[at % size] ^= next();
     }
 }

@@ -6,7 +6,7 @@ use crate::model::controller::{Controller, Departures, Settings, LAST_TIME};
 use crate::model::receiver::{Receiver as ReceiverModel, Written};
 use crate::model::tracker::{Sent as SentModel, Tracker as TrackerModel};
 use crate::port::{bytes_of, Fault, Receiver, Tracker};
-use crate::raw::{Recv, Sent};
+use crate::raw::{Recv, Sent, SentPacket};
 use crate::tools::Random;
 use crate::{receiver, tracker};
 use std::mem::{offset_of, size_of};
@@ -37,13 +37,13 @@ fn tracker_sound(sent: &Sent) -> bool {
         && n.variance <= LAST_TIME
         && (1..=1 << 53).contains(&n.timeout)
         && n.last <= LAST_TIME;
-    if !numbers || sent.live > 512 || sent.live > sent.count || sent.count > 60_000 || sent.delays.count > 1_024 {
+    if !numbers || sent.live > 512 || sent.live > sent.count || sent.count > 60_000 || sent.kept > 1_024 {
         return false;
     }
-    let samples = &sent.delays.kept[..sent.delays.count as usize];
+    let samples = &sent.samples[..sent.kept as usize];
     let ordered = samples.windows(2).all(|pair| pair[0].delay < pair[1].delay && pair[0].at <= pair[1].at);
     let last_in = samples.last().is_none_or(|last| last.delay <= LAST_TIME && last.at <= n.last);
-    let kept = &sent.packets[..sent.live as usize];
+    let kept: Vec<SentPacket> = (0..sent.live as usize).map(|place| sent.packet(place)).collect();
     let mut acknowledged_later = 0;
     let mut marked = true;
     for packet in kept.iter().rev() {
@@ -74,10 +74,7 @@ fn tracker_model(sent: &Sent) -> TrackerModel {
         timeout: n.timeout,
         round_trip: n.trip.into(),
         variance: n.variance.into(),
-        samples: sent.delays.kept[..sent.delays.count as usize]
-            .iter()
-            .map(|sample| (sample.delay, sample.at))
-            .collect(),
+        samples: sent.samples[..sent.kept as usize].iter().map(|sample| (sample.delay, sample.at)).collect(),
         departures: Departures::default(),
     };
     let gone = sent.count - sent.live;
@@ -94,15 +91,18 @@ fn tracker_model(sent: &Sent) -> TrackerModel {
             lost: false,
         })
         .collect();
-    packets.extend(sent.packets[..sent.live as usize].iter().enumerate().map(|(place, packet)| SentModel {
-        number: number(gone + 1 + place as u32),
-        kind: packet.kind,
-        tag: packet.tag,
-        length: packet.len,
-        first_sent: packet.sent_at,
-        sent_once: packet.resent == 0,
-        acknowledged: packet.acked == 1,
-        lost: packet.lost == 1,
+    packets.extend((0..sent.live).map(|place| {
+        let packet = sent.packet(place as usize);
+        SentModel {
+            number: number(gone + 1 + place),
+            kind: packet.kind,
+            tag: packet.tag,
+            length: packet.len,
+            first_sent: packet.sent_at,
+            sent_once: packet.resent == 0,
+            acknowledged: packet.acked == 1,
+            lost: packet.lost == 1,
+        }
     }));
     TrackerModel { initial: sent.initial, packets, controller, clock: n.last }
 }
@@ -148,8 +148,21 @@ pub fn reached_tracker(random: &mut Random, port: &mut Tracker) -> Result<Vec<u8
 }
 
 pub fn tracker(random: &mut Random, port: &mut Tracker, base: &[u8], counts: &mut Counts) -> Result<(), Fault> {
-    let (packets, samples) = (offset_of!(Sent, packets), offset_of!(Sent, delays));
-    let parts = [(0, 12), (16, 80), (samples, 48), (samples + 16 * 1_024, 4), (packets, 24 * 4), (packets, 24 * 60)];
+    let (samples, times) = (offset_of!(Sent, samples), offset_of!(Sent, times));
+    let (sizes, marks) = (offset_of!(Sent, sizes), offset_of!(Sent, marks));
+    // The counts, the numbers, the first samples; then of the first packets, and of more of them, each array.
+    let parts = [
+        (0, 12),
+        (offset_of!(Sent, kept), 4),
+        (offset_of!(Sent, numbers), 80),
+        (samples, 48),
+        (times, 8 * 4),
+        (sizes, 8 * 4),
+        (marks, 4 * 4),
+        (times, 8 * 60),
+        (sizes, 8 * 60),
+        (marks, 4 * 60),
+    ];
     let mut bytes = base.to_vec();
     forge(random, &mut bytes, &parts);
     port.set(&bytes);

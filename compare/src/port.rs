@@ -4,7 +4,7 @@
 use crate::lent::Lent;
 use crate::model::codec::{Parts, Read};
 use crate::model::controller::Settings;
-use crate::raw::{self, Delays, Header, Numbers, Packet, Recv, Sent, SentPacket};
+use crate::raw::{self, Header, Numbers, Packet, Recv, Sent};
 use std::mem::{offset_of, size_of};
 
 /// What is wrong, in words.
@@ -34,10 +34,7 @@ pub fn bytes_of<T: Copy>(value: &T) -> &[u8] {
 /// The padding between the fields of a tracker, of a receiver and of a packet that was read, as (place, length). It is no part of
 /// a value, and may hold anything.
 fn tracker_padding() -> Vec<(usize, usize)> {
-    let numbers = offset_of!(Sent, numbers) + offset_of!(Numbers, in_flight) + 4;
-    let samples = offset_of!(Sent, delays) + offset_of!(Delays, count) + 4;
-    let packets = (0..512).map(|place| (offset_of!(Sent, packets) + place * size_of::<SentPacket>() + 20, 4));
-    [(2, 2), (12, 4), (numbers, 4), (samples, 4)].into_iter().chain(packets).collect()
+    vec![(2, 2), (offset_of!(Sent, numbers) + offset_of!(Numbers, in_flight) + 4, 4)]
 }
 
 fn receiver_padding() -> Vec<(usize, usize)> {

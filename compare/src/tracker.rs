@@ -67,7 +67,7 @@ pub fn same_state(port: &mut Port, model: &Model) -> Result<(), Fault> {
         (controller.round_trip, controller.variance, controller.timeout, model.clock),
     )?;
     let kept: Vec<(u64, u64)> =
-        sent.delays.kept[..sent.delays.count as usize].iter().map(|sample| (sample.delay, sample.at)).collect();
+        sent.samples[..sent.kept as usize].iter().map(|sample| (sample.delay, sample.at)).collect();
     same("samples", &kept, &controller.samples)?;
     for (place, packet) in model.packets[model.run()..].iter().enumerate() {
         let wanted = SentPacket {
@@ -79,7 +79,7 @@ pub fn same_state(port: &mut Port, model: &Model) -> Result<(), Fault> {
             lost: packet.lost.into(),
             resent: (!packet.sent_once).into(),
         };
-        same("packet", sent.packets[place], wanted)?;
+        same("packet", sent.packet(place), wanted)?;
     }
     Ok(())
 }

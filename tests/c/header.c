@@ -7,7 +7,7 @@
 
 _Static_assert(sizeof(ribsaddle_header) == 20 && alignof(ribsaddle_header) == 4, "ribsaddle_header");
 _Static_assert(sizeof(ribsaddle_packet) == 56 && alignof(ribsaddle_packet) == 8, "ribsaddle_packet");
-_Static_assert(sizeof(ribsaddle_sent) == 28776 && alignof(ribsaddle_sent) == 8, "ribsaddle_sent");
+_Static_assert(sizeof(ribsaddle_sent) == 26720 && alignof(ribsaddle_sent) == 8, "ribsaddle_sent");
 _Static_assert(sizeof(ribsaddle_recv) == 1044 && alignof(ribsaddle_recv) == 4, "ribsaddle_recv");
 
 static int failed, checked;
@@ -81,7 +81,9 @@ static void tracker(void)
     SAME(ribsaddle_sent_sound(s), RIBSADDLE_NOT_SOUND);
     SAME(ribsaddle_sent_in_flight(s, &value), RIBSADDLE_NOT_SOUND);
     SAME(ribsaddle_sent_new(s, 500, 999, 70000, 30000, 1200, 3000, 90000000, 0.5), RIBSADDLE_BAD_SETTING);
-    SAME(s->packets[511].resent, 0xA5);
+    SAME(s->kept, 0xA5A5A5A5);
+    SAME(s->samples[1023].at, 0xA5A5A5A5A5A5A5A5);
+    SAME(s->marks[511].resent, 0xA5);
     SAME(value, 77);
     SAME(ribsaddle_sent_new(s, 500, 100000, 70000, 30000, 1200, 3000, 90000000, 0.5), RIBSADDLE_DONE);
     GUARDS(sent);
@@ -100,24 +102,27 @@ static void tracker(void)
     SAME(s->numbers.variance, 0);
     SAME(s->numbers.timeout, 70000);
     SAME(s->numbers.last, 0);
-    SAME(s->delays.kept[1023].at, 0);
-    SAME(s->delays.count, 0);
-    SAME(s->packets[511].resent, 0);
+    SAME(s->kept, 0);
+    SAME(s->samples[1023].at, 0);
+    SAME(s->times[511], 0);
+    SAME(s->sizes[511].len, 0);
+    SAME(s->marks[511].resent, 0);
     for (uint16_t k = 1; k <= 5; k++)
         SAME(ribsaddle_sent_transmit(s, 500 + k, RIBSADDLE_DATA, 40 + k, 100 + k, 1000 + k), RIBSADDLE_DONE);
     SAME(s->count, 5);
-    SAME(s->packets[4].sent_at, 1005);
-    SAME(s->packets[4].tag, 45);
-    SAME(s->packets[4].len, 105);
-    SAME(s->packets[4].kind, RIBSADDLE_DATA);
-    SAME(s->packets[4].acked, 0);
+    SAME(s->times[4], 1005);
+    SAME(s->sizes[4].tag, 45);
+    SAME(s->sizes[4].len, 105);
+    SAME(s->marks[4].kind, RIBSADDLE_DATA);
+    SAME(s->marks[4].acked, 0);
     SAME(ribsaddle_sent_ack(s, 501, (const uint8_t[]){ 7, 0, 0, 0 }, 4, 250, 2000), RIBSADDLE_DONE);
     SAME(s->live, 4);
-    SAME(s->delays.count, 1);
-    SAME(s->delays.kept[0].delay, 250);
-    SAME(s->delays.kept[0].at, 2000);
-    SAME(s->packets[0].lost, 1);
-    SAME(s->packets[1].acked, 1);
+    SAME(s->kept, 1);
+    SAME(s->samples[0].delay, 250);
+    SAME(s->samples[0].at, 2000);
+    SAME(s->times[0], 1002);
+    SAME(s->marks[0].lost, 1);
+    SAME(s->marks[1].acked, 1);
     SAME(s->numbers.last, 2000);
     SAME(ribsaddle_sent_lost_at(s, 0, &number, &type, &tag), RIBSADDLE_DONE);
     SAME(number, 502);
@@ -126,7 +131,7 @@ static void tracker(void)
     SAME(ribsaddle_sent_lost_at(s, 1, &number, &type, &tag), RIBSADDLE_NOT_SENT);
     SAME(ribsaddle_sent_transmit(s, 502, 5, 42, 102, 2001), RIBSADDLE_UNKNOWN_TYPE);
     SAME(ribsaddle_sent_transmit(s, 502, RIBSADDLE_DATA, 42, 102, 2001), RIBSADDLE_DONE);
-    SAME(s->packets[0].resent, 1);
+    SAME(s->marks[0].resent, 1);
     SAME(ribsaddle_sent_range(s, &number, &tag), RIBSADDLE_DONE);
     SAME(number, 500);
     SAME(tag, 505);

@@ -56,16 +56,42 @@ pub struct Sample {
     pub at: u64,
 }
 
-/// The kept samples stand at the front.
+/// The tag and the first length of a packet that is kept.
 #[repr(C)]
-#[derive(Copy, Clone)]
-pub struct Delays {
-    pub kept: [Sample; 1024],
-    pub count: u32,
+#[derive(Copy, Clone, Debug, PartialEq, Eq)]
+pub struct Size {
+    pub tag: u32,
+    pub len: u32,
 }
 
-/// A sent packet that is kept.
+/// The type's number of a packet that is kept, and what is known of it, 0 or 1 each.
 #[repr(C)]
+#[derive(Copy, Clone, Debug, PartialEq, Eq)]
+pub struct Marks {
+    pub kind: u8,
+    pub acked: u8,
+    pub lost: u8,
+    pub resent: u8,
+}
+
+/// A tracker: 26,720 bytes, aligned to 8. Any bits are one; one that is not sound is refused with 19 (docs/STATE.md).
+///
+/// The kept samples stand at the front of `samples`, the kept packets at the front of `times`, `sizes` and `marks`.
+#[repr(C)]
+#[derive(Copy, Clone)]
+pub struct Sent {
+    pub initial: u16,
+    pub count: u32,
+    pub live: u32,
+    pub kept: u32,
+    pub numbers: Numbers,
+    pub samples: [Sample; 1024],
+    pub times: [u64; 512],
+    pub sizes: [Size; 512],
+    pub marks: [Marks; 512],
+}
+
+/// A sent packet that is kept, put together from its place in the arrays of a [`Sent`].
 #[derive(Copy, Clone, Debug, PartialEq, Eq)]
 pub struct SentPacket {
     pub sent_at: u64,
@@ -77,16 +103,12 @@ pub struct SentPacket {
     pub resent: u8,
 }
 
-/// A tracker: 28,776 bytes, aligned to 8. Any bits are one; one that is not sound is refused with 19 (docs/STATE.md).
-#[repr(C)]
-#[derive(Copy, Clone)]
-pub struct Sent {
-    pub initial: u16,
-    pub count: u32,
-    pub live: u32,
-    pub numbers: Numbers,
-    pub delays: Delays,
-    pub packets: [SentPacket; 512],
+impl Sent {
+    /// The packet at a place, from 0 to 511. The first `live` are kept.
+    pub fn packet(&self, place: usize) -> SentPacket {
+        let (Size { tag, len }, Marks { kind, acked, lost, resent }) = (self.sizes[place], self.marks[place]);
+        SentPacket { sent_at: self.times[place], tag, len, kind, acked, lost, resent }
+    }
 }
 
 /// A receiver: 1,044 bytes, aligned to 4. Any bits are one; one that is not sound is refused with 19 (docs/STATE.md).
@@ -106,9 +128,10 @@ const _: () = {
     use std::mem::{align_of, offset_of, size_of};
     assert!(size_of::<Header>() == 20 && align_of::<Header>() == 4);
     assert!(size_of::<Packet>() == 56 && align_of::<Packet>() == 8);
-    assert!(size_of::<Sent>() == 28_776 && align_of::<Sent>() == 8);
+    assert!(size_of::<Sent>() == 26_720 && align_of::<Sent>() == 8);
     assert!(size_of::<Recv>() == 1_044 && align_of::<Recv>() == 4);
-    assert!(offset_of!(Sent, numbers) == 16 && offset_of!(Sent, delays) == 96 && offset_of!(Sent, packets) == 16_488);
+    assert!(offset_of!(Sent, kept) == 12 && offset_of!(Sent, numbers) == 16 && offset_of!(Sent, samples) == 96);
+    assert!(offset_of!(Sent, times) == 16_480 && offset_of!(Sent, sizes) == 20_576 && offset_of!(Sent, marks) == 24_672);
     assert!(offset_of!(Recv, waiting) == 20);
 };
 

@@ -29,7 +29,7 @@ fn micros(time: Duration) -> u64 {
     u64::try_from(time.as_micros()).unwrap_or(u64::MAX)
 }
 
-/// The tracker of sent packets, with its congestion window. 28,776 bytes on the heap, allocated once.
+/// The tracker of sent packets, with its congestion window. 26,720 bytes on the heap, allocated once.
 ///
 /// Times are told as a `Duration` since a moment that the caller picks, in whole microseconds.
 ///
@@ -191,7 +191,7 @@ impl SentPackets {
 
 impl std::fmt::Debug for SentPackets {
     fn fmt(&self, f: &mut std::fmt::Formatter<'_>) -> std::fmt::Result {
-        let kept = &self.state.packets[..(self.state.live as usize).min(512)];
+        let kept: Vec<_> = (0..self.state.live.min(512) as usize).map(|place| self.state.packet(place)).collect();
         f.debug_struct("SentPackets")
             .field("seq_num_range", &self.seq_num_range())
             .field("numbers", &self.state.numbers)

@@ -1,14 +1,14 @@
 -- The walks of the exported functions, one for each form and shape, and the states that they are over.
 pub mod Behind
 pub mod Exported
-pub mod Mut_0
 pub mod Mut_nn
-pub mod Mut_nnnnn
 pub mod Mut_nnnnnnnn
-pub mod Mut_nsnn
 pub mod Mut_s
+pub mod PartR_vllll_0
+pub mod PartR_vllll_nnnnn
 pub mod Part_vl_mmr
 pub mod Part_vl_mns
+pub mod Part_vllll_nsnn
 pub mod Promises
 pub mod Ref_0
 pub mod Ref_mr

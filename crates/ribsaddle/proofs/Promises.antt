@@ -1,7 +1,5 @@
 -- Every exported function, in the order of the source: nothing is asked of its caller, and no two different outcomes satisfy its promise. An outcome is the answer together with all memory lent to be written.
 use mathlib.Core.Path.{refl}
-use Rattle.ribsaddle.specs.declared.receiver.Receiver.{Receiver}
-use Rattle.ribsaddle.specs.Parts.{countingOf, partsOf, wholeIn, wholeOf}
 use mir.Syntax.{w8, w16, w32, w64}
 use lib.Ieee.{binary64}
 use Rattle.ribsaddle.proofs.codec.ribsaddle_decode as decode
@@ -68,24 +66,28 @@ use Rattle.ribsaddle.proofs.receiver.ribsaddle_recv_was_written as recv
 use Rattle.ribsaddle.proofs.receiver.ribsaddle_recv_was_written.Key as recv-was-written-key
 use Rattle.ribsaddle.specs.Answer.{bitOf, numberOf, partOr, valueOr}
 use Rattle.ribsaddle.specs.Codec.{readingOf, writingOf, writingRoomOf, writingSizeOf}
-use Rattle.ribsaddle.specs.Tracker.{ackOf as sent-ack, endOf, lostAnswer, lostNumberOf, lostTagOf, lostTypeOf, newOf as sent-new, seqOf, soundNumberOf, startOf, timeoutOf, transmitOf}
+use Rattle.ribsaddle.specs.Parts.{countingOf, partsOf as recv-parts, wholeIn as recv-in, wholeOf as recv-whole}
+use Rattle.ribsaddle.specs.declared.receiver.Receiver.{Receiver}
+use Rattle.ribsaddle.specs.declared.tracker.Tracker.{Tracker}
+use Rattle.ribsaddle.specs.Tracker.{Sized, ackOf as sent-ack, endOf, headingOf, lostAnswer, lostNumberOf, lostTagOf, lostTypeOf, newOf as sent-new, partsOf as sent-parts, seqOf, soundNumberOf, startOf, timeoutOf, transmitOf, wholeOf as sent-whole}
 use Rattle.ribsaddle.specs.Receiver.{countAnswer, newOf as recv-new, numberAnswer, readOf as recv-read, sackAnswer, takenCountOf, truthAnswer, writeOf}
 use Rattle.sent.specs.State.{readOf as sent-read}
+use Rattle.sent.specs.Lent.{marksOf, pairsOf, sizesOf, timesOf, wholeIn as sent-in}
 use Rattle.sent.specs.Read.{ackNumIn, hasLostIn, hasUnackedIn, inFlightIn, lostCountIn, maximumIn, nextSeqNumIn, seqNumRangeIn, timeoutIn, windowIn}
 use Rattle.recv.specs.State.{ackOf as recv-ack, countedOf, emptyOf, numberedOf, tableOf, toldOf, writtenBefore}
 use Rattle.recv.specs.Table.{bytesIn, freeOf, howMany}
 use Rattle.recv.specs.Calls.{ackedRoomOf, takenOutOf, takenRoomOf, writtenRoomOf}
 use Rattle.ribsaddle.proofs.Behind.{float, uint}
 use Rattle.ribsaddle.proofs.Exported.{Exported}
-use Rattle.ribsaddle.proofs.States.{counting, counts, header-fields, next-is, packet-fields, reading, receiver, receiver-lawful, receiver-name, receiver-one, receiver-to, receiving, stored, table, tracker, tracking}
-use Rattle.ribsaddle.proofs.Mut_0 as Mut-0
+use Rattle.ribsaddle.proofs.States.{counting, counts, head, header-fields, heading, marks, next-is, packet-fields, reading, receiver, receiver-lawful, receiver-name, receiver-one, receiver-to, receiving, samples, sent-next, sent-stored, sized, sizes, starting, stored, table, times, tracker, tracker-lawful, tracker-name, tracker-one, tracker-to}
 use Rattle.ribsaddle.proofs.Mut_nn as Mut-nn
-use Rattle.ribsaddle.proofs.Mut_nnnnn as Mut-nnnnn
 use Rattle.ribsaddle.proofs.Mut_nnnnnnnn as Mut-nnnnnnnn
-use Rattle.ribsaddle.proofs.Mut_nsnn as Mut-nsnn
 use Rattle.ribsaddle.proofs.Mut_s as Mut-s
-use Rattle.ribsaddle.proofs.Part_vl_mmr as Part-mmr
-use Rattle.ribsaddle.proofs.Part_vl_mns as Part-mns
+use Rattle.ribsaddle.proofs.PartR_vllll_0 as PartR-vllll-0
+use Rattle.ribsaddle.proofs.PartR_vllll_nnnnn as PartR-vllll-nnnnn
+use Rattle.ribsaddle.proofs.Part_vl_mmr as Part-vl-mmr
+use Rattle.ribsaddle.proofs.Part_vl_mns as Part-vl-mns
+use Rattle.ribsaddle.proofs.Part_vllll_nsnn as Part-vllll-nsnn
 use Rattle.ribsaddle.proofs.Ref_0 as Ref-0
 use Rattle.ribsaddle.proofs.Ref_mr as Ref-mr
 use Rattle.ribsaddle.proofs.Ref_nr as Ref-nr
@@ -100,62 +102,62 @@ decode-promise = record { post = Mut-s.Post packet-fields (uint w8) (uint w32) r
 encode-promise : Exported encode.ended (λ M 𝓤. encode.clauses 𝓤) (Ref-ssmr.seen header-fields (uint w8) (uint w8) (uint w8) (uint w64) (uint w32) encode-key.name (λ h s p r n. numberOf (writingOf h s p r)) (λ h s p r n. writingRoomOf h s p r) writingSizeOf)
 encode-promise = record { post = Ref-ssmr.Post header-fields (uint w8) (uint w8) (uint w8) (uint w64) (uint w32) encode-key.name (λ h s p r n. numberOf (writingOf h s p r)) (λ h s p r n. writingRoomOf h s p r) writingSizeOf; asks-nothing = λ M 𝓤 H A mem run κs a g. refl; says = λ M 𝓤 H A mem run κs a g r e. refl; promise = Ref-ssmr.promise header-fields (uint w8) (uint w8) (uint w8) (uint w64) (uint w32) encode-key.name (λ h s p r n. numberOf (writingOf h s p r)) (λ h s p r n. writingRoomOf h s p r) writingSizeOf }
 
-sent-new-promise : Exported sent-new.ended (λ M 𝓤. sent-new.clauses 𝓤) (Mut-nnnnnnnn.seen tracker (uint w16) (uint w64) (uint w64) (uint w64) (uint w64) (uint w64) (uint w64) (float binary64) (uint w32) tracking sent-new-key.name sent-new)
-sent-new-promise = record { post = Mut-nnnnnnnn.Post tracker (uint w16) (uint w64) (uint w64) (uint w64) (uint w64) (uint w64) (uint w64) (float binary64) (uint w32) tracking sent-new-key.name sent-new; asks-nothing = λ M 𝓤 H A mem run κs a g. refl; says = λ M 𝓤 H A mem run κs a g r e. refl; promise = Mut-nnnnnnnn.promise tracker (uint w16) (uint w64) (uint w64) (uint w64) (uint w64) (uint w64) (uint w64) (float binary64) (uint w32) tracking sent-new-key.name sent-new }
+sent-new-promise : Exported sent-new.ended (λ M 𝓤. sent-new.clauses 𝓤) (Mut-nnnnnnnn.seen tracker (uint w16) (uint w64) (uint w64) (uint w64) (uint w64) (uint w64) (uint w64) (float binary64) (uint w32) starting sent-new-key.name sent-new)
+sent-new-promise = record { post = Mut-nnnnnnnn.Post tracker (uint w16) (uint w64) (uint w64) (uint w64) (uint w64) (uint w64) (uint w64) (float binary64) (uint w32) starting sent-new-key.name sent-new; asks-nothing = λ M 𝓤 H A mem run κs a g. refl; says = λ M 𝓤 H A mem run κs a g r e. refl; promise = Mut-nnnnnnnn.promise tracker (uint w16) (uint w64) (uint w64) (uint w64) (uint w64) (uint w64) (uint w64) (float binary64) (uint w32) starting sent-new-key.name sent-new }
 
-sent-transmit-promise : Exported sent-transmit.ended (λ M 𝓤. sent-transmit.clauses 𝓤) (Mut-nnnnn.seen tracker (uint w16) (uint w8) (uint w32) (uint w32) (uint w64) (uint w32) tracking sent-transmit-key.name transmitOf)
-sent-transmit-promise = record { post = Mut-nnnnn.Post tracker (uint w16) (uint w8) (uint w32) (uint w32) (uint w64) (uint w32) tracking sent-transmit-key.name transmitOf; asks-nothing = λ M 𝓤 H A mem run κs a g. refl; says = λ M 𝓤 H A mem run κs a g r e. refl; promise = Mut-nnnnn.promise tracker (uint w16) (uint w8) (uint w32) (uint w32) (uint w64) (uint w32) tracking sent-transmit-key.name transmitOf }
+sent-transmit-promise : Exported sent-transmit.ended (λ M 𝓤. sent-transmit.clauses 𝓤) (PartR-vllll-nnnnn.seen head tracker-name samples times sizes marks Tracker tracker-to tracker-one (λ t. t .head) (λ t. refl) tracker-lawful (uint w16) (uint w8) (uint w32) (uint w32) (uint w64) (uint w32) heading sent-transmit-key.name (λ c w x y z y1 y2 y3 y4 y5. Sized w x y z) (λ c w x y z y1 y2 y3 y4 y5. headingOf (transmitOf (sent-in c w x y z) y1 y2 y3 y4 y5)) (λ c w x y z y1 y2 y3 y4 y5. pairsOf (transmitOf (sent-in c w x y z) y1 y2 y3 y4 y5 .state .delays .kept)) (λ c w x y z y1 y2 y3 y4 y5. timesOf (transmitOf (sent-in c w x y z) y1 y2 y3 y4 y5 .state .packets)) (λ c w x y z y1 y2 y3 y4 y5. sizesOf (transmitOf (sent-in c w x y z) y1 y2 y3 y4 y5 .state .packets)) (λ c w x y z y1 y2 y3 y4 y5. marksOf (transmitOf (sent-in c w x y z) y1 y2 y3 y4 y5 .state .packets)) (λ t y1 y2 y3 y4 y5. transmitOf (sent-whole t) y1 y2 y3 y4 y5 .answer) (λ t y1 y2 y3 y4 y5. sent-parts (transmitOf (sent-whole t) y1 y2 y3 y4 y5 .state)) (λ t y1 y2 y3 y4 y5. sent-stored t (λ s. transmitOf s y1 y2 y3 y4 y5 .answer)) (λ t y1 y2 y3 y4 y5. sent-next t (λ s. transmitOf s y1 y2 y3 y4 y5 .state)) (λ t y1 y2 y3 y4 y5. sized t))
+sent-transmit-promise = record { post = PartR-vllll-nnnnn.Post head tracker-name samples times sizes marks Tracker tracker-to tracker-one (λ t. t .head) (λ t. refl) tracker-lawful (uint w16) (uint w8) (uint w32) (uint w32) (uint w64) (uint w32) heading sent-transmit-key.name (λ c w x y z y1 y2 y3 y4 y5. Sized w x y z) (λ c w x y z y1 y2 y3 y4 y5. headingOf (transmitOf (sent-in c w x y z) y1 y2 y3 y4 y5)) (λ c w x y z y1 y2 y3 y4 y5. pairsOf (transmitOf (sent-in c w x y z) y1 y2 y3 y4 y5 .state .delays .kept)) (λ c w x y z y1 y2 y3 y4 y5. timesOf (transmitOf (sent-in c w x y z) y1 y2 y3 y4 y5 .state .packets)) (λ c w x y z y1 y2 y3 y4 y5. sizesOf (transmitOf (sent-in c w x y z) y1 y2 y3 y4 y5 .state .packets)) (λ c w x y z y1 y2 y3 y4 y5. marksOf (transmitOf (sent-in c w x y z) y1 y2 y3 y4 y5 .state .packets)) (λ t y1 y2 y3 y4 y5. transmitOf (sent-whole t) y1 y2 y3 y4 y5 .answer) (λ t y1 y2 y3 y4 y5. sent-parts (transmitOf (sent-whole t) y1 y2 y3 y4 y5 .state)) (λ t y1 y2 y3 y4 y5. sent-stored t (λ s. transmitOf s y1 y2 y3 y4 y5 .answer)) (λ t y1 y2 y3 y4 y5. sent-next t (λ s. transmitOf s y1 y2 y3 y4 y5 .state)) (λ t y1 y2 y3 y4 y5. sized t); asks-nothing = λ M 𝓤 H A mem run κs a g. refl; says = λ M 𝓤 H A mem run κs a g r e. refl; promise = PartR-vllll-nnnnn.promise head tracker-name samples times sizes marks Tracker tracker-to tracker-one (λ t. t .head) (λ t. refl) tracker-lawful (uint w16) (uint w8) (uint w32) (uint w32) (uint w64) (uint w32) heading sent-transmit-key.name (λ c w x y z y1 y2 y3 y4 y5. Sized w x y z) (λ c w x y z y1 y2 y3 y4 y5. headingOf (transmitOf (sent-in c w x y z) y1 y2 y3 y4 y5)) (λ c w x y z y1 y2 y3 y4 y5. pairsOf (transmitOf (sent-in c w x y z) y1 y2 y3 y4 y5 .state .delays .kept)) (λ c w x y z y1 y2 y3 y4 y5. timesOf (transmitOf (sent-in c w x y z) y1 y2 y3 y4 y5 .state .packets)) (λ c w x y z y1 y2 y3 y4 y5. sizesOf (transmitOf (sent-in c w x y z) y1 y2 y3 y4 y5 .state .packets)) (λ c w x y z y1 y2 y3 y4 y5. marksOf (transmitOf (sent-in c w x y z) y1 y2 y3 y4 y5 .state .packets)) (λ t y1 y2 y3 y4 y5. transmitOf (sent-whole t) y1 y2 y3 y4 y5 .answer) (λ t y1 y2 y3 y4 y5. sent-parts (transmitOf (sent-whole t) y1 y2 y3 y4 y5 .state)) (λ t y1 y2 y3 y4 y5. sent-stored t (λ s. transmitOf s y1 y2 y3 y4 y5 .answer)) (λ t y1 y2 y3 y4 y5. sent-next t (λ s. transmitOf s y1 y2 y3 y4 y5 .state)) (λ t y1 y2 y3 y4 y5. sized t) }
 
-sent-ack-promise : Exported sent-ack.ended (λ M 𝓤. sent-ack.clauses 𝓤) (Mut-nsnn.seen tracker (uint w16) (uint w8) (uint w64) (uint w64) (uint w32) tracking sent-ack-key.name sent-ack)
-sent-ack-promise = record { post = Mut-nsnn.Post tracker (uint w16) (uint w8) (uint w64) (uint w64) (uint w32) tracking sent-ack-key.name sent-ack; asks-nothing = λ M 𝓤 H A mem run κs a g. refl; says = λ M 𝓤 H A mem run κs a g r e. refl; promise = Mut-nsnn.promise tracker (uint w16) (uint w8) (uint w64) (uint w64) (uint w32) tracking sent-ack-key.name sent-ack }
+sent-ack-promise : Exported sent-ack.ended (λ M 𝓤. sent-ack.clauses 𝓤) (Part-vllll-nsnn.seen head tracker-name samples times sizes marks Tracker tracker-to tracker-one (λ t. t .head) (λ t. refl) tracker-lawful (uint w16) (uint w8) (uint w64) (uint w64) (uint w32) heading sent-ack-key.name (λ c w x y z y1 y2 y3 y4. headingOf (sent-ack (sent-in c w x y z) y1 y2 y3 y4)) (λ c w x y z y1 y2 y3 y4. pairsOf (sent-ack (sent-in c w x y z) y1 y2 y3 y4 .state .delays .kept)) (λ c w x y z y1 y2 y3 y4. timesOf (sent-ack (sent-in c w x y z) y1 y2 y3 y4 .state .packets)) (λ c w x y z y1 y2 y3 y4. sizesOf (sent-ack (sent-in c w x y z) y1 y2 y3 y4 .state .packets)) (λ c w x y z y1 y2 y3 y4. marksOf (sent-ack (sent-in c w x y z) y1 y2 y3 y4 .state .packets)) (λ t y1 y2 y3 y4. sent-ack (sent-whole t) y1 y2 y3 y4 .answer) (λ t y1 y2 y3 y4. sent-parts (sent-ack (sent-whole t) y1 y2 y3 y4 .state)) (λ t y1 y2 y3 y4. sent-stored t (λ s. sent-ack s y1 y2 y3 y4 .answer)) (λ t y1 y2 y3 y4. sent-next t (λ s. sent-ack s y1 y2 y3 y4 .state)))
+sent-ack-promise = record { post = Part-vllll-nsnn.Post head tracker-name samples times sizes marks Tracker tracker-to tracker-one (λ t. t .head) (λ t. refl) tracker-lawful (uint w16) (uint w8) (uint w64) (uint w64) (uint w32) heading sent-ack-key.name (λ c w x y z y1 y2 y3 y4. headingOf (sent-ack (sent-in c w x y z) y1 y2 y3 y4)) (λ c w x y z y1 y2 y3 y4. pairsOf (sent-ack (sent-in c w x y z) y1 y2 y3 y4 .state .delays .kept)) (λ c w x y z y1 y2 y3 y4. timesOf (sent-ack (sent-in c w x y z) y1 y2 y3 y4 .state .packets)) (λ c w x y z y1 y2 y3 y4. sizesOf (sent-ack (sent-in c w x y z) y1 y2 y3 y4 .state .packets)) (λ c w x y z y1 y2 y3 y4. marksOf (sent-ack (sent-in c w x y z) y1 y2 y3 y4 .state .packets)) (λ t y1 y2 y3 y4. sent-ack (sent-whole t) y1 y2 y3 y4 .answer) (λ t y1 y2 y3 y4. sent-parts (sent-ack (sent-whole t) y1 y2 y3 y4 .state)) (λ t y1 y2 y3 y4. sent-stored t (λ s. sent-ack s y1 y2 y3 y4 .answer)) (λ t y1 y2 y3 y4. sent-next t (λ s. sent-ack s y1 y2 y3 y4 .state)); asks-nothing = λ M 𝓤 H A mem run κs a g. refl; says = λ M 𝓤 H A mem run κs a g r e. refl; promise = Part-vllll-nsnn.promise head tracker-name samples times sizes marks Tracker tracker-to tracker-one (λ t. t .head) (λ t. refl) tracker-lawful (uint w16) (uint w8) (uint w64) (uint w64) (uint w32) heading sent-ack-key.name (λ c w x y z y1 y2 y3 y4. headingOf (sent-ack (sent-in c w x y z) y1 y2 y3 y4)) (λ c w x y z y1 y2 y3 y4. pairsOf (sent-ack (sent-in c w x y z) y1 y2 y3 y4 .state .delays .kept)) (λ c w x y z y1 y2 y3 y4. timesOf (sent-ack (sent-in c w x y z) y1 y2 y3 y4 .state .packets)) (λ c w x y z y1 y2 y3 y4. sizesOf (sent-ack (sent-in c w x y z) y1 y2 y3 y4 .state .packets)) (λ c w x y z y1 y2 y3 y4. marksOf (sent-ack (sent-in c w x y z) y1 y2 y3 y4 .state .packets)) (λ t y1 y2 y3 y4. sent-ack (sent-whole t) y1 y2 y3 y4 .answer) (λ t y1 y2 y3 y4. sent-parts (sent-ack (sent-whole t) y1 y2 y3 y4 .state)) (λ t y1 y2 y3 y4. sent-stored t (λ s. sent-ack s y1 y2 y3 y4 .answer)) (λ t y1 y2 y3 y4. sent-next t (λ s. sent-ack s y1 y2 y3 y4 .state)) }
 
-sent-on-timeout-promise : Exported sent-on-timeout.ended (λ M 𝓤. sent-on-timeout.clauses 𝓤) (Mut-0.seen tracker (uint w32) tracking sent-on-timeout-key.name timeoutOf)
-sent-on-timeout-promise = record { post = Mut-0.Post tracker (uint w32) tracking sent-on-timeout-key.name timeoutOf; asks-nothing = λ M 𝓤 H A mem run κs a g. refl; says = λ M 𝓤 H A mem run κs a g r e. refl; promise = Mut-0.promise tracker (uint w32) tracking sent-on-timeout-key.name timeoutOf }
+sent-on-timeout-promise : Exported sent-on-timeout.ended (λ M 𝓤. sent-on-timeout.clauses 𝓤) (PartR-vllll-0.seen head tracker-name samples times sizes marks Tracker tracker-to tracker-one (λ t. t .head) (λ t. refl) tracker-lawful (uint w32) heading sent-on-timeout-key.name (λ c w x y z. Sized w x y z) (λ c w x y z. headingOf (timeoutOf (sent-in c w x y z))) (λ c w x y z. pairsOf (timeoutOf (sent-in c w x y z) .state .delays .kept)) (λ c w x y z. timesOf (timeoutOf (sent-in c w x y z) .state .packets)) (λ c w x y z. sizesOf (timeoutOf (sent-in c w x y z) .state .packets)) (λ c w x y z. marksOf (timeoutOf (sent-in c w x y z) .state .packets)) (λ t. timeoutOf (sent-whole t) .answer) (λ t. sent-parts (timeoutOf (sent-whole t) .state)) (λ t. sent-stored t (λ s. timeoutOf s .answer)) (λ t. sent-next t (λ s. timeoutOf s .state)) (λ t. sized t))
+sent-on-timeout-promise = record { post = PartR-vllll-0.Post head tracker-name samples times sizes marks Tracker tracker-to tracker-one (λ t. t .head) (λ t. refl) tracker-lawful (uint w32) heading sent-on-timeout-key.name (λ c w x y z. Sized w x y z) (λ c w x y z. headingOf (timeoutOf (sent-in c w x y z))) (λ c w x y z. pairsOf (timeoutOf (sent-in c w x y z) .state .delays .kept)) (λ c w x y z. timesOf (timeoutOf (sent-in c w x y z) .state .packets)) (λ c w x y z. sizesOf (timeoutOf (sent-in c w x y z) .state .packets)) (λ c w x y z. marksOf (timeoutOf (sent-in c w x y z) .state .packets)) (λ t. timeoutOf (sent-whole t) .answer) (λ t. sent-parts (timeoutOf (sent-whole t) .state)) (λ t. sent-stored t (λ s. timeoutOf s .answer)) (λ t. sent-next t (λ s. timeoutOf s .state)) (λ t. sized t); asks-nothing = λ M 𝓤 H A mem run κs a g. refl; says = λ M 𝓤 H A mem run κs a g r e. refl; promise = PartR-vllll-0.promise head tracker-name samples times sizes marks Tracker tracker-to tracker-one (λ t. t .head) (λ t. refl) tracker-lawful (uint w32) heading sent-on-timeout-key.name (λ c w x y z. Sized w x y z) (λ c w x y z. headingOf (timeoutOf (sent-in c w x y z))) (λ c w x y z. pairsOf (timeoutOf (sent-in c w x y z) .state .delays .kept)) (λ c w x y z. timesOf (timeoutOf (sent-in c w x y z) .state .packets)) (λ c w x y z. sizesOf (timeoutOf (sent-in c w x y z) .state .packets)) (λ c w x y z. marksOf (timeoutOf (sent-in c w x y z) .state .packets)) (λ t. timeoutOf (sent-whole t) .answer) (λ t. sent-parts (timeoutOf (sent-whole t) .state)) (λ t. sent-stored t (λ s. timeoutOf s .answer)) (λ t. sent-next t (λ s. timeoutOf s .state)) (λ t. sized t) }
 
-sent-sound-promise : Exported sent-sound.ended (λ M 𝓤. sent-sound.clauses 𝓤) (Ref-0.seen tracker (uint w32) sent-sound-key.name soundNumberOf)
-sent-sound-promise = record { post = Ref-0.Post tracker (uint w32) sent-sound-key.name soundNumberOf; asks-nothing = λ M 𝓤 H A mem run κs a g. refl; says = λ M 𝓤 H A mem run κs a g r e. refl; promise = Ref-0.promise tracker (uint w32) sent-sound-key.name soundNumberOf }
+sent-sound-promise : Exported sent-sound.ended (λ M 𝓤. sent-sound.clauses 𝓤) (Ref-0.seen tracker (uint w32) sent-sound-key.name (λ s. soundNumberOf (sent-whole s)))
+sent-sound-promise = record { post = Ref-0.Post tracker (uint w32) sent-sound-key.name (λ s. soundNumberOf (sent-whole s)); asks-nothing = λ M 𝓤 H A mem run κs a g. refl; says = λ M 𝓤 H A mem run κs a g r e. refl; promise = Ref-0.promise tracker (uint w32) sent-sound-key.name (λ s. soundNumberOf (sent-whole s)) }
 
-sent-timeout-promise : Exported sent-timeout.ended (λ M 𝓤. sent-timeout.clauses 𝓤) (Ref-r.seen tracker (uint w64) (uint w32) sent-timeout-key.name (λ s v. numberOf (sent-read s timeoutIn)) (λ s v. valueOr v (sent-read s timeoutIn)))
-sent-timeout-promise = record { post = Ref-r.Post tracker (uint w64) (uint w32) sent-timeout-key.name (λ s v. numberOf (sent-read s timeoutIn)) (λ s v. valueOr v (sent-read s timeoutIn)); asks-nothing = λ M 𝓤 H A mem run κs a g. refl; says = λ M 𝓤 H A mem run κs a g r e. refl; promise = Ref-r.promise tracker (uint w64) (uint w32) sent-timeout-key.name (λ s v. numberOf (sent-read s timeoutIn)) (λ s v. valueOr v (sent-read s timeoutIn)) }
+sent-timeout-promise : Exported sent-timeout.ended (λ M 𝓤. sent-timeout.clauses 𝓤) (Ref-r.seen tracker (uint w64) (uint w32) sent-timeout-key.name (λ s v. numberOf (sent-read (sent-whole s) timeoutIn)) (λ s v. valueOr v (sent-read (sent-whole s) timeoutIn)))
+sent-timeout-promise = record { post = Ref-r.Post tracker (uint w64) (uint w32) sent-timeout-key.name (λ s v. numberOf (sent-read (sent-whole s) timeoutIn)) (λ s v. valueOr v (sent-read (sent-whole s) timeoutIn)); asks-nothing = λ M 𝓤 H A mem run κs a g. refl; says = λ M 𝓤 H A mem run κs a g r e. refl; promise = Ref-r.promise tracker (uint w64) (uint w32) sent-timeout-key.name (λ s v. numberOf (sent-read (sent-whole s) timeoutIn)) (λ s v. valueOr v (sent-read (sent-whole s) timeoutIn)) }
 
-sent-window-promise : Exported sent-window.ended (λ M 𝓤. sent-window.clauses 𝓤) (Ref-r.seen tracker (uint w64) (uint w32) sent-window-key.name (λ s v. numberOf (sent-read s windowIn)) (λ s v. valueOr v (sent-read s windowIn)))
-sent-window-promise = record { post = Ref-r.Post tracker (uint w64) (uint w32) sent-window-key.name (λ s v. numberOf (sent-read s windowIn)) (λ s v. valueOr v (sent-read s windowIn)); asks-nothing = λ M 𝓤 H A mem run κs a g. refl; says = λ M 𝓤 H A mem run κs a g r e. refl; promise = Ref-r.promise tracker (uint w64) (uint w32) sent-window-key.name (λ s v. numberOf (sent-read s windowIn)) (λ s v. valueOr v (sent-read s windowIn)) }
+sent-window-promise : Exported sent-window.ended (λ M 𝓤. sent-window.clauses 𝓤) (Ref-r.seen tracker (uint w64) (uint w32) sent-window-key.name (λ s v. numberOf (sent-read (sent-whole s) windowIn)) (λ s v. valueOr v (sent-read (sent-whole s) windowIn)))
+sent-window-promise = record { post = Ref-r.Post tracker (uint w64) (uint w32) sent-window-key.name (λ s v. numberOf (sent-read (sent-whole s) windowIn)) (λ s v. valueOr v (sent-read (sent-whole s) windowIn)); asks-nothing = λ M 𝓤 H A mem run κs a g. refl; says = λ M 𝓤 H A mem run κs a g r e. refl; promise = Ref-r.promise tracker (uint w64) (uint w32) sent-window-key.name (λ s v. numberOf (sent-read (sent-whole s) windowIn)) (λ s v. valueOr v (sent-read (sent-whole s) windowIn)) }
 
-sent-in-flight-promise : Exported sent-in-flight.ended (λ M 𝓤. sent-in-flight.clauses 𝓤) (Ref-r.seen tracker (uint w64) (uint w32) sent-in-flight-key.name (λ s v. numberOf (sent-read s inFlightIn)) (λ s v. valueOr v (sent-read s inFlightIn)))
-sent-in-flight-promise = record { post = Ref-r.Post tracker (uint w64) (uint w32) sent-in-flight-key.name (λ s v. numberOf (sent-read s inFlightIn)) (λ s v. valueOr v (sent-read s inFlightIn)); asks-nothing = λ M 𝓤 H A mem run κs a g. refl; says = λ M 𝓤 H A mem run κs a g r e. refl; promise = Ref-r.promise tracker (uint w64) (uint w32) sent-in-flight-key.name (λ s v. numberOf (sent-read s inFlightIn)) (λ s v. valueOr v (sent-read s inFlightIn)) }
+sent-in-flight-promise : Exported sent-in-flight.ended (λ M 𝓤. sent-in-flight.clauses 𝓤) (Ref-r.seen tracker (uint w64) (uint w32) sent-in-flight-key.name (λ s v. numberOf (sent-read (sent-whole s) inFlightIn)) (λ s v. valueOr v (sent-read (sent-whole s) inFlightIn)))
+sent-in-flight-promise = record { post = Ref-r.Post tracker (uint w64) (uint w32) sent-in-flight-key.name (λ s v. numberOf (sent-read (sent-whole s) inFlightIn)) (λ s v. valueOr v (sent-read (sent-whole s) inFlightIn)); asks-nothing = λ M 𝓤 H A mem run κs a g. refl; says = λ M 𝓤 H A mem run κs a g r e. refl; promise = Ref-r.promise tracker (uint w64) (uint w32) sent-in-flight-key.name (λ s v. numberOf (sent-read (sent-whole s) inFlightIn)) (λ s v. valueOr v (sent-read (sent-whole s) inFlightIn)) }
 
-sent-maximum-promise : Exported sent-maximum.ended (λ M 𝓤. sent-maximum.clauses 𝓤) (Ref-r.seen tracker (uint w64) (uint w32) sent-maximum-key.name (λ s v. numberOf (sent-read s maximumIn)) (λ s v. valueOr v (sent-read s maximumIn)))
-sent-maximum-promise = record { post = Ref-r.Post tracker (uint w64) (uint w32) sent-maximum-key.name (λ s v. numberOf (sent-read s maximumIn)) (λ s v. valueOr v (sent-read s maximumIn)); asks-nothing = λ M 𝓤 H A mem run κs a g. refl; says = λ M 𝓤 H A mem run κs a g r e. refl; promise = Ref-r.promise tracker (uint w64) (uint w32) sent-maximum-key.name (λ s v. numberOf (sent-read s maximumIn)) (λ s v. valueOr v (sent-read s maximumIn)) }
+sent-maximum-promise : Exported sent-maximum.ended (λ M 𝓤. sent-maximum.clauses 𝓤) (Ref-r.seen tracker (uint w64) (uint w32) sent-maximum-key.name (λ s v. numberOf (sent-read (sent-whole s) maximumIn)) (λ s v. valueOr v (sent-read (sent-whole s) maximumIn)))
+sent-maximum-promise = record { post = Ref-r.Post tracker (uint w64) (uint w32) sent-maximum-key.name (λ s v. numberOf (sent-read (sent-whole s) maximumIn)) (λ s v. valueOr v (sent-read (sent-whole s) maximumIn)); asks-nothing = λ M 𝓤 H A mem run κs a g. refl; says = λ M 𝓤 H A mem run κs a g r e. refl; promise = Ref-r.promise tracker (uint w64) (uint w32) sent-maximum-key.name (λ s v. numberOf (sent-read (sent-whole s) maximumIn)) (λ s v. valueOr v (sent-read (sent-whole s) maximumIn)) }
 
-sent-lost-count-promise : Exported sent-lost-count.ended (λ M 𝓤. sent-lost-count.clauses 𝓤) (Ref-r.seen tracker (uint w64) (uint w32) sent-lost-count-key.name (λ s v. numberOf (sent-read s lostCountIn)) (λ s v. valueOr v (sent-read s lostCountIn)))
-sent-lost-count-promise = record { post = Ref-r.Post tracker (uint w64) (uint w32) sent-lost-count-key.name (λ s v. numberOf (sent-read s lostCountIn)) (λ s v. valueOr v (sent-read s lostCountIn)); asks-nothing = λ M 𝓤 H A mem run κs a g. refl; says = λ M 𝓤 H A mem run κs a g r e. refl; promise = Ref-r.promise tracker (uint w64) (uint w32) sent-lost-count-key.name (λ s v. numberOf (sent-read s lostCountIn)) (λ s v. valueOr v (sent-read s lostCountIn)) }
+sent-lost-count-promise : Exported sent-lost-count.ended (λ M 𝓤. sent-lost-count.clauses 𝓤) (Ref-r.seen tracker (uint w64) (uint w32) sent-lost-count-key.name (λ s v. numberOf (sent-read (sent-whole s) lostCountIn)) (λ s v. valueOr v (sent-read (sent-whole s) lostCountIn)))
+sent-lost-count-promise = record { post = Ref-r.Post tracker (uint w64) (uint w32) sent-lost-count-key.name (λ s v. numberOf (sent-read (sent-whole s) lostCountIn)) (λ s v. valueOr v (sent-read (sent-whole s) lostCountIn)); asks-nothing = λ M 𝓤 H A mem run κs a g. refl; says = λ M 𝓤 H A mem run κs a g r e. refl; promise = Ref-r.promise tracker (uint w64) (uint w32) sent-lost-count-key.name (λ s v. numberOf (sent-read (sent-whole s) lostCountIn)) (λ s v. valueOr v (sent-read (sent-whole s) lostCountIn)) }
 
-sent-ack-num-promise : Exported sent-ack-num.ended (λ M 𝓤. sent-ack-num.clauses 𝓤) (Ref-r.seen tracker (uint w64) (uint w32) sent-ack-num-key.name (λ s v. numberOf (sent-read s ackNumIn)) (λ s v. partOr seqOf v (sent-read s ackNumIn)))
-sent-ack-num-promise = record { post = Ref-r.Post tracker (uint w64) (uint w32) sent-ack-num-key.name (λ s v. numberOf (sent-read s ackNumIn)) (λ s v. partOr seqOf v (sent-read s ackNumIn)); asks-nothing = λ M 𝓤 H A mem run κs a g. refl; says = λ M 𝓤 H A mem run κs a g r e. refl; promise = Ref-r.promise tracker (uint w64) (uint w32) sent-ack-num-key.name (λ s v. numberOf (sent-read s ackNumIn)) (λ s v. partOr seqOf v (sent-read s ackNumIn)) }
+sent-ack-num-promise : Exported sent-ack-num.ended (λ M 𝓤. sent-ack-num.clauses 𝓤) (Ref-r.seen tracker (uint w64) (uint w32) sent-ack-num-key.name (λ s v. numberOf (sent-read (sent-whole s) ackNumIn)) (λ s v. partOr seqOf v (sent-read (sent-whole s) ackNumIn)))
+sent-ack-num-promise = record { post = Ref-r.Post tracker (uint w64) (uint w32) sent-ack-num-key.name (λ s v. numberOf (sent-read (sent-whole s) ackNumIn)) (λ s v. partOr seqOf v (sent-read (sent-whole s) ackNumIn)); asks-nothing = λ M 𝓤 H A mem run κs a g. refl; says = λ M 𝓤 H A mem run κs a g r e. refl; promise = Ref-r.promise tracker (uint w64) (uint w32) sent-ack-num-key.name (λ s v. numberOf (sent-read (sent-whole s) ackNumIn)) (λ s v. partOr seqOf v (sent-read (sent-whole s) ackNumIn)) }
 
-sent-next-seq-num-promise : Exported sent-next-seq-num.ended (λ M 𝓤. sent-next-seq-num.clauses 𝓤) (Ref-r.seen tracker (uint w64) (uint w32) sent-next-seq-num-key.name (λ s v. numberOf (sent-read s nextSeqNumIn)) (λ s v. partOr seqOf v (sent-read s nextSeqNumIn)))
-sent-next-seq-num-promise = record { post = Ref-r.Post tracker (uint w64) (uint w32) sent-next-seq-num-key.name (λ s v. numberOf (sent-read s nextSeqNumIn)) (λ s v. partOr seqOf v (sent-read s nextSeqNumIn)); asks-nothing = λ M 𝓤 H A mem run κs a g. refl; says = λ M 𝓤 H A mem run κs a g r e. refl; promise = Ref-r.promise tracker (uint w64) (uint w32) sent-next-seq-num-key.name (λ s v. numberOf (sent-read s nextSeqNumIn)) (λ s v. partOr seqOf v (sent-read s nextSeqNumIn)) }
+sent-next-seq-num-promise : Exported sent-next-seq-num.ended (λ M 𝓤. sent-next-seq-num.clauses 𝓤) (Ref-r.seen tracker (uint w64) (uint w32) sent-next-seq-num-key.name (λ s v. numberOf (sent-read (sent-whole s) nextSeqNumIn)) (λ s v. partOr seqOf v (sent-read (sent-whole s) nextSeqNumIn)))
+sent-next-seq-num-promise = record { post = Ref-r.Post tracker (uint w64) (uint w32) sent-next-seq-num-key.name (λ s v. numberOf (sent-read (sent-whole s) nextSeqNumIn)) (λ s v. partOr seqOf v (sent-read (sent-whole s) nextSeqNumIn)); asks-nothing = λ M 𝓤 H A mem run κs a g. refl; says = λ M 𝓤 H A mem run κs a g r e. refl; promise = Ref-r.promise tracker (uint w64) (uint w32) sent-next-seq-num-key.name (λ s v. numberOf (sent-read (sent-whole s) nextSeqNumIn)) (λ s v. partOr seqOf v (sent-read (sent-whole s) nextSeqNumIn)) }
 
-sent-has-unacked-promise : Exported sent-has-unacked.ended (λ M 𝓤. sent-has-unacked.clauses 𝓤) (Ref-r.seen tracker (uint w64) (uint w32) sent-has-unacked-key.name (λ s v. numberOf (sent-read s hasUnackedIn)) (λ s v. partOr bitOf v (sent-read s hasUnackedIn)))
-sent-has-unacked-promise = record { post = Ref-r.Post tracker (uint w64) (uint w32) sent-has-unacked-key.name (λ s v. numberOf (sent-read s hasUnackedIn)) (λ s v. partOr bitOf v (sent-read s hasUnackedIn)); asks-nothing = λ M 𝓤 H A mem run κs a g. refl; says = λ M 𝓤 H A mem run κs a g r e. refl; promise = Ref-r.promise tracker (uint w64) (uint w32) sent-has-unacked-key.name (λ s v. numberOf (sent-read s hasUnackedIn)) (λ s v. partOr bitOf v (sent-read s hasUnackedIn)) }
+sent-has-unacked-promise : Exported sent-has-unacked.ended (λ M 𝓤. sent-has-unacked.clauses 𝓤) (Ref-r.seen tracker (uint w64) (uint w32) sent-has-unacked-key.name (λ s v. numberOf (sent-read (sent-whole s) hasUnackedIn)) (λ s v. partOr bitOf v (sent-read (sent-whole s) hasUnackedIn)))
+sent-has-unacked-promise = record { post = Ref-r.Post tracker (uint w64) (uint w32) sent-has-unacked-key.name (λ s v. numberOf (sent-read (sent-whole s) hasUnackedIn)) (λ s v. partOr bitOf v (sent-read (sent-whole s) hasUnackedIn)); asks-nothing = λ M 𝓤 H A mem run κs a g. refl; says = λ M 𝓤 H A mem run κs a g r e. refl; promise = Ref-r.promise tracker (uint w64) (uint w32) sent-has-unacked-key.name (λ s v. numberOf (sent-read (sent-whole s) hasUnackedIn)) (λ s v. partOr bitOf v (sent-read (sent-whole s) hasUnackedIn)) }
 
-sent-has-lost-promise : Exported sent-has-lost.ended (λ M 𝓤. sent-has-lost.clauses 𝓤) (Ref-r.seen tracker (uint w64) (uint w32) sent-has-lost-key.name (λ s v. numberOf (sent-read s hasLostIn)) (λ s v. partOr bitOf v (sent-read s hasLostIn)))
-sent-has-lost-promise = record { post = Ref-r.Post tracker (uint w64) (uint w32) sent-has-lost-key.name (λ s v. numberOf (sent-read s hasLostIn)) (λ s v. partOr bitOf v (sent-read s hasLostIn)); asks-nothing = λ M 𝓤 H A mem run κs a g. refl; says = λ M 𝓤 H A mem run κs a g r e. refl; promise = Ref-r.promise tracker (uint w64) (uint w32) sent-has-lost-key.name (λ s v. numberOf (sent-read s hasLostIn)) (λ s v. partOr bitOf v (sent-read s hasLostIn)) }
+sent-has-lost-promise : Exported sent-has-lost.ended (λ M 𝓤. sent-has-lost.clauses 𝓤) (Ref-r.seen tracker (uint w64) (uint w32) sent-has-lost-key.name (λ s v. numberOf (sent-read (sent-whole s) hasLostIn)) (λ s v. partOr bitOf v (sent-read (sent-whole s) hasLostIn)))
+sent-has-lost-promise = record { post = Ref-r.Post tracker (uint w64) (uint w32) sent-has-lost-key.name (λ s v. numberOf (sent-read (sent-whole s) hasLostIn)) (λ s v. partOr bitOf v (sent-read (sent-whole s) hasLostIn)); asks-nothing = λ M 𝓤 H A mem run κs a g. refl; says = λ M 𝓤 H A mem run κs a g r e. refl; promise = Ref-r.promise tracker (uint w64) (uint w32) sent-has-lost-key.name (λ s v. numberOf (sent-read (sent-whole s) hasLostIn)) (λ s v. partOr bitOf v (sent-read (sent-whole s) hasLostIn)) }
 
-sent-range-promise : Exported sent-range.ended (λ M 𝓤. sent-range.clauses 𝓤) (Ref-rr.seen tracker (uint w64) (uint w64) (uint w32) sent-range-key.name (λ s a b. numberOf (sent-read s seqNumRangeIn)) (λ s a b. partOr startOf a (sent-read s seqNumRangeIn)) (λ s a b. partOr endOf b (sent-read s seqNumRangeIn)))
-sent-range-promise = record { post = Ref-rr.Post tracker (uint w64) (uint w64) (uint w32) sent-range-key.name (λ s a b. numberOf (sent-read s seqNumRangeIn)) (λ s a b. partOr startOf a (sent-read s seqNumRangeIn)) (λ s a b. partOr endOf b (sent-read s seqNumRangeIn)); asks-nothing = λ M 𝓤 H A mem run κs a g. refl; says = λ M 𝓤 H A mem run κs a g r e. refl; promise = Ref-rr.promise tracker (uint w64) (uint w64) (uint w32) sent-range-key.name (λ s a b. numberOf (sent-read s seqNumRangeIn)) (λ s a b. partOr startOf a (sent-read s seqNumRangeIn)) (λ s a b. partOr endOf b (sent-read s seqNumRangeIn)) }
+sent-range-promise : Exported sent-range.ended (λ M 𝓤. sent-range.clauses 𝓤) (Ref-rr.seen tracker (uint w64) (uint w64) (uint w32) sent-range-key.name (λ s a b. numberOf (sent-read (sent-whole s) seqNumRangeIn)) (λ s a b. partOr startOf a (sent-read (sent-whole s) seqNumRangeIn)) (λ s a b. partOr endOf b (sent-read (sent-whole s) seqNumRangeIn)))
+sent-range-promise = record { post = Ref-rr.Post tracker (uint w64) (uint w64) (uint w32) sent-range-key.name (λ s a b. numberOf (sent-read (sent-whole s) seqNumRangeIn)) (λ s a b. partOr startOf a (sent-read (sent-whole s) seqNumRangeIn)) (λ s a b. partOr endOf b (sent-read (sent-whole s) seqNumRangeIn)); asks-nothing = λ M 𝓤 H A mem run κs a g. refl; says = λ M 𝓤 H A mem run κs a g r e. refl; promise = Ref-rr.promise tracker (uint w64) (uint w64) (uint w32) sent-range-key.name (λ s a b. numberOf (sent-read (sent-whole s) seqNumRangeIn)) (λ s a b. partOr startOf a (sent-read (sent-whole s) seqNumRangeIn)) (λ s a b. partOr endOf b (sent-read (sent-whole s) seqNumRangeIn)) }
 
-sent-lost-at-promise : Exported sent-lost-at.ended (λ M 𝓤. sent-lost-at.clauses 𝓤) (Ref-nrrr.seen tracker (uint w32) (uint w64) (uint w64) (uint w64) (uint w32) sent-lost-at-key.name (λ s p a b d. numberOf (lostAnswer s p)) (λ s p a b d. partOr lostNumberOf a (lostAnswer s p)) (λ s p a b d. partOr lostTypeOf b (lostAnswer s p)) (λ s p a b d. partOr lostTagOf d (lostAnswer s p)))
-sent-lost-at-promise = record { post = Ref-nrrr.Post tracker (uint w32) (uint w64) (uint w64) (uint w64) (uint w32) sent-lost-at-key.name (λ s p a b d. numberOf (lostAnswer s p)) (λ s p a b d. partOr lostNumberOf a (lostAnswer s p)) (λ s p a b d. partOr lostTypeOf b (lostAnswer s p)) (λ s p a b d. partOr lostTagOf d (lostAnswer s p)); asks-nothing = λ M 𝓤 H A mem run κs a g. refl; says = λ M 𝓤 H A mem run κs a g r e. refl; promise = Ref-nrrr.promise tracker (uint w32) (uint w64) (uint w64) (uint w64) (uint w32) sent-lost-at-key.name (λ s p a b d. numberOf (lostAnswer s p)) (λ s p a b d. partOr lostNumberOf a (lostAnswer s p)) (λ s p a b d. partOr lostTypeOf b (lostAnswer s p)) (λ s p a b d. partOr lostTagOf d (lostAnswer s p)) }
+sent-lost-at-promise : Exported sent-lost-at.ended (λ M 𝓤. sent-lost-at.clauses 𝓤) (Ref-nrrr.seen tracker (uint w32) (uint w64) (uint w64) (uint w64) (uint w32) sent-lost-at-key.name (λ s p a b d. numberOf (lostAnswer (sent-whole s) p)) (λ s p a b d. partOr lostNumberOf a (lostAnswer (sent-whole s) p)) (λ s p a b d. partOr lostTypeOf b (lostAnswer (sent-whole s) p)) (λ s p a b d. partOr lostTagOf d (lostAnswer (sent-whole s) p)))
+sent-lost-at-promise = record { post = Ref-nrrr.Post tracker (uint w32) (uint w64) (uint w64) (uint w64) (uint w32) sent-lost-at-key.name (λ s p a b d. numberOf (lostAnswer (sent-whole s) p)) (λ s p a b d. partOr lostNumberOf a (lostAnswer (sent-whole s) p)) (λ s p a b d. partOr lostTypeOf b (lostAnswer (sent-whole s) p)) (λ s p a b d. partOr lostTagOf d (lostAnswer (sent-whole s) p)); asks-nothing = λ M 𝓤 H A mem run κs a g. refl; says = λ M 𝓤 H A mem run κs a g r e. refl; promise = Ref-nrrr.promise tracker (uint w32) (uint w64) (uint w64) (uint w64) (uint w32) sent-lost-at-key.name (λ s p a b d. numberOf (lostAnswer (sent-whole s) p)) (λ s p a b d. partOr lostNumberOf a (lostAnswer (sent-whole s) p)) (λ s p a b d. partOr lostTypeOf b (lostAnswer (sent-whole s) p)) (λ s p a b d. partOr lostTagOf d (lostAnswer (sent-whole s) p)) }
 
 recv-new-promise : Exported recv-new.ended (λ M 𝓤. recv-new.clauses 𝓤) (Mut-nn.seen receiver (uint w16) (uint w64) (uint w32) receiving recv-new-key.name recv-new)
 recv-new-promise = record { post = Mut-nn.Post receiver (uint w16) (uint w64) (uint w32) receiving recv-new-key.name recv-new; asks-nothing = λ M 𝓤 H A mem run κs a g. refl; says = λ M 𝓤 H A mem run κs a g r e. refl; promise = Mut-nn.promise receiver (uint w16) (uint w64) (uint w32) receiving recv-new-key.name recv-new }
 
-recv-write-promise : Exported recv-write.ended (λ M 𝓤. recv-write.clauses 𝓤) (Part-mns.seen counts receiver-name table Receiver receiver-to receiver-one (λ t. t .counts) (λ t. refl) receiver-lawful (uint w8) (uint w16) (uint w8) (uint w32) counting recv-write-key.name (λ c w y1 y2 y3. countingOf (writeOf (wholeIn c w) y1 y2 y3)) (λ c w y1 y2 y3. writeOf (wholeIn c w) y1 y2 y3 .state .waiting) (λ c w y1 y2 y3. writtenRoomOf (wholeIn c w) y1 (record { 0 = y2 }) y3) (λ t y1 y2 y3. writeOf (wholeOf t) y1 y2 y3 .answer) (λ t y1 y2 y3. partsOf (writeOf (wholeOf t) y1 y2 y3 .state)) (λ t y1 y2 y3. writtenRoomOf (wholeOf t) y1 (record { 0 = y2 }) y3) (λ t y1 y2 y3. stored t (λ s. writeOf s y1 y2 y3 .answer)) (λ t y1 y2 y3. next-is t (λ s. writeOf s y1 y2 y3 .state)) (λ t y1 y2 y3. stored t (λ s. writtenRoomOf s y1 (record { 0 = y2 }) y3)))
-recv-write-promise = record { post = Part-mns.Post counts receiver-name table Receiver receiver-to receiver-one (λ t. t .counts) (λ t. refl) receiver-lawful (uint w8) (uint w16) (uint w8) (uint w32) counting recv-write-key.name (λ c w y1 y2 y3. countingOf (writeOf (wholeIn c w) y1 y2 y3)) (λ c w y1 y2 y3. writeOf (wholeIn c w) y1 y2 y3 .state .waiting) (λ c w y1 y2 y3. writtenRoomOf (wholeIn c w) y1 (record { 0 = y2 }) y3) (λ t y1 y2 y3. writeOf (wholeOf t) y1 y2 y3 .answer) (λ t y1 y2 y3. partsOf (writeOf (wholeOf t) y1 y2 y3 .state)) (λ t y1 y2 y3. writtenRoomOf (wholeOf t) y1 (record { 0 = y2 }) y3) (λ t y1 y2 y3. stored t (λ s. writeOf s y1 y2 y3 .answer)) (λ t y1 y2 y3. next-is t (λ s. writeOf s y1 y2 y3 .state)) (λ t y1 y2 y3. stored t (λ s. writtenRoomOf s y1 (record { 0 = y2 }) y3)); asks-nothing = λ M 𝓤 H A mem run κs a g. refl; says = λ M 𝓤 H A mem run κs a g r e. refl; promise = Part-mns.promise counts receiver-name table Receiver receiver-to receiver-one (λ t. t .counts) (λ t. refl) receiver-lawful (uint w8) (uint w16) (uint w8) (uint w32) counting recv-write-key.name (λ c w y1 y2 y3. countingOf (writeOf (wholeIn c w) y1 y2 y3)) (λ c w y1 y2 y3. writeOf (wholeIn c w) y1 y2 y3 .state .waiting) (λ c w y1 y2 y3. writtenRoomOf (wholeIn c w) y1 (record { 0 = y2 }) y3) (λ t y1 y2 y3. writeOf (wholeOf t) y1 y2 y3 .answer) (λ t y1 y2 y3. partsOf (writeOf (wholeOf t) y1 y2 y3 .state)) (λ t y1 y2 y3. writtenRoomOf (wholeOf t) y1 (record { 0 = y2 }) y3) (λ t y1 y2 y3. stored t (λ s. writeOf s y1 y2 y3 .answer)) (λ t y1 y2 y3. next-is t (λ s. writeOf s y1 y2 y3 .state)) (λ t y1 y2 y3. stored t (λ s. writtenRoomOf s y1 (record { 0 = y2 }) y3)) }
+recv-write-promise : Exported recv-write.ended (λ M 𝓤. recv-write.clauses 𝓤) (Part-vl-mns.seen counts receiver-name table Receiver receiver-to receiver-one (λ t. t .counts) (λ t. refl) receiver-lawful (uint w8) (uint w16) (uint w8) (uint w32) counting recv-write-key.name (λ c w y1 y2 y3. countingOf (writeOf (recv-in c w) y1 y2 y3)) (λ c w y1 y2 y3. writeOf (recv-in c w) y1 y2 y3 .state .waiting) (λ c w y1 y2 y3. writtenRoomOf (recv-in c w) y1 (record { 0 = y2 }) y3) (λ t y1 y2 y3. writeOf (recv-whole t) y1 y2 y3 .answer) (λ t y1 y2 y3. recv-parts (writeOf (recv-whole t) y1 y2 y3 .state)) (λ t y1 y2 y3. writtenRoomOf (recv-whole t) y1 (record { 0 = y2 }) y3) (λ t y1 y2 y3. stored t (λ s. writeOf s y1 y2 y3 .answer)) (λ t y1 y2 y3. next-is t (λ s. writeOf s y1 y2 y3 .state)) (λ t y1 y2 y3. stored t (λ s. writtenRoomOf s y1 (record { 0 = y2 }) y3)))
+recv-write-promise = record { post = Part-vl-mns.Post counts receiver-name table Receiver receiver-to receiver-one (λ t. t .counts) (λ t. refl) receiver-lawful (uint w8) (uint w16) (uint w8) (uint w32) counting recv-write-key.name (λ c w y1 y2 y3. countingOf (writeOf (recv-in c w) y1 y2 y3)) (λ c w y1 y2 y3. writeOf (recv-in c w) y1 y2 y3 .state .waiting) (λ c w y1 y2 y3. writtenRoomOf (recv-in c w) y1 (record { 0 = y2 }) y3) (λ t y1 y2 y3. writeOf (recv-whole t) y1 y2 y3 .answer) (λ t y1 y2 y3. recv-parts (writeOf (recv-whole t) y1 y2 y3 .state)) (λ t y1 y2 y3. writtenRoomOf (recv-whole t) y1 (record { 0 = y2 }) y3) (λ t y1 y2 y3. stored t (λ s. writeOf s y1 y2 y3 .answer)) (λ t y1 y2 y3. next-is t (λ s. writeOf s y1 y2 y3 .state)) (λ t y1 y2 y3. stored t (λ s. writtenRoomOf s y1 (record { 0 = y2 }) y3)); asks-nothing = λ M 𝓤 H A mem run κs a g. refl; says = λ M 𝓤 H A mem run κs a g r e. refl; promise = Part-vl-mns.promise counts receiver-name table Receiver receiver-to receiver-one (λ t. t .counts) (λ t. refl) receiver-lawful (uint w8) (uint w16) (uint w8) (uint w32) counting recv-write-key.name (λ c w y1 y2 y3. countingOf (writeOf (recv-in c w) y1 y2 y3)) (λ c w y1 y2 y3. writeOf (recv-in c w) y1 y2 y3 .state .waiting) (λ c w y1 y2 y3. writtenRoomOf (recv-in c w) y1 (record { 0 = y2 }) y3) (λ t y1 y2 y3. writeOf (recv-whole t) y1 y2 y3 .answer) (λ t y1 y2 y3. recv-parts (writeOf (recv-whole t) y1 y2 y3 .state)) (λ t y1 y2 y3. writtenRoomOf (recv-whole t) y1 (record { 0 = y2 }) y3) (λ t y1 y2 y3. stored t (λ s. writeOf s y1 y2 y3 .answer)) (λ t y1 y2 y3. next-is t (λ s. writeOf s y1 y2 y3 .state)) (λ t y1 y2 y3. stored t (λ s. writtenRoomOf s y1 (record { 0 = y2 }) y3)) }
 
-recv-read-promise : Exported recv-read.ended (λ M 𝓤. recv-read.clauses 𝓤) (Part-mmr.seen counts receiver-name table Receiver receiver-to receiver-one (λ t. t .counts) (λ t. refl) receiver-lawful (uint w8) (uint w8) (uint w64) (uint w32) counting recv-read-key.name (λ c w y1 y2 y3. countingOf (recv-read (wholeIn c w) y1 y2)) (λ c w y1 y2 y3. recv-read (wholeIn c w) y1 y2 .state .waiting) (λ c w y1 y2 y3. takenRoomOf (wholeIn c w) y1 y2) (λ c w y1 y2 y3. takenOutOf (wholeIn c w) y1 y2) (λ c w y1 y2 y3. valueOr y3 (takenCountOf (wholeIn c w) y1 y2)) (λ t y1 y2 y3. recv-read (wholeOf t) y1 y2 .answer) (λ t y1 y2 y3. partsOf (recv-read (wholeOf t) y1 y2 .state)) (λ t y1 y2 y3. takenRoomOf (wholeOf t) y1 y2) (λ t y1 y2 y3. takenOutOf (wholeOf t) y1 y2) (λ t y1 y2 y3. valueOr y3 (takenCountOf (wholeOf t) y1 y2)) (λ t y1 y2 y3. stored t (λ s. recv-read s y1 y2 .answer)) (λ t y1 y2 y3. next-is t (λ s. recv-read s y1 y2 .state)) (λ t y1 y2 y3. stored t (λ s. takenRoomOf s y1 y2)) (λ t y1 y2 y3. stored t (λ s. takenOutOf s y1 y2)) (λ t y1 y2 y3. stored t (λ s. valueOr y3 (takenCountOf s y1 y2))))
-recv-read-promise = record { post = Part-mmr.Post counts receiver-name table Receiver receiver-to receiver-one (λ t. t .counts) (λ t. refl) receiver-lawful (uint w8) (uint w8) (uint w64) (uint w32) counting recv-read-key.name (λ c w y1 y2 y3. countingOf (recv-read (wholeIn c w) y1 y2)) (λ c w y1 y2 y3. recv-read (wholeIn c w) y1 y2 .state .waiting) (λ c w y1 y2 y3. takenRoomOf (wholeIn c w) y1 y2) (λ c w y1 y2 y3. takenOutOf (wholeIn c w) y1 y2) (λ c w y1 y2 y3. valueOr y3 (takenCountOf (wholeIn c w) y1 y2)) (λ t y1 y2 y3. recv-read (wholeOf t) y1 y2 .answer) (λ t y1 y2 y3. partsOf (recv-read (wholeOf t) y1 y2 .state)) (λ t y1 y2 y3. takenRoomOf (wholeOf t) y1 y2) (λ t y1 y2 y3. takenOutOf (wholeOf t) y1 y2) (λ t y1 y2 y3. valueOr y3 (takenCountOf (wholeOf t) y1 y2)) (λ t y1 y2 y3. stored t (λ s. recv-read s y1 y2 .answer)) (λ t y1 y2 y3. next-is t (λ s. recv-read s y1 y2 .state)) (λ t y1 y2 y3. stored t (λ s. takenRoomOf s y1 y2)) (λ t y1 y2 y3. stored t (λ s. takenOutOf s y1 y2)) (λ t y1 y2 y3. stored t (λ s. valueOr y3 (takenCountOf s y1 y2))); asks-nothing = λ M 𝓤 H A mem run κs a g. refl; says = λ M 𝓤 H A mem run κs a g r e. refl; promise = Part-mmr.promise counts receiver-name table Receiver receiver-to receiver-one (λ t. t .counts) (λ t. refl) receiver-lawful (uint w8) (uint w8) (uint w64) (uint w32) counting recv-read-key.name (λ c w y1 y2 y3. countingOf (recv-read (wholeIn c w) y1 y2)) (λ c w y1 y2 y3. recv-read (wholeIn c w) y1 y2 .state .waiting) (λ c w y1 y2 y3. takenRoomOf (wholeIn c w) y1 y2) (λ c w y1 y2 y3. takenOutOf (wholeIn c w) y1 y2) (λ c w y1 y2 y3. valueOr y3 (takenCountOf (wholeIn c w) y1 y2)) (λ t y1 y2 y3. recv-read (wholeOf t) y1 y2 .answer) (λ t y1 y2 y3. partsOf (recv-read (wholeOf t) y1 y2 .state)) (λ t y1 y2 y3. takenRoomOf (wholeOf t) y1 y2) (λ t y1 y2 y3. takenOutOf (wholeOf t) y1 y2) (λ t y1 y2 y3. valueOr y3 (takenCountOf (wholeOf t) y1 y2)) (λ t y1 y2 y3. stored t (λ s. recv-read s y1 y2 .answer)) (λ t y1 y2 y3. next-is t (λ s. recv-read s y1 y2 .state)) (λ t y1 y2 y3. stored t (λ s. takenRoomOf s y1 y2)) (λ t y1 y2 y3. stored t (λ s. takenOutOf s y1 y2)) (λ t y1 y2 y3. stored t (λ s. valueOr y3 (takenCountOf s y1 y2))) }
+recv-read-promise : Exported recv-read.ended (λ M 𝓤. recv-read.clauses 𝓤) (Part-vl-mmr.seen counts receiver-name table Receiver receiver-to receiver-one (λ t. t .counts) (λ t. refl) receiver-lawful (uint w8) (uint w8) (uint w64) (uint w32) counting recv-read-key.name (λ c w y1 y2 y3. countingOf (recv-read (recv-in c w) y1 y2)) (λ c w y1 y2 y3. recv-read (recv-in c w) y1 y2 .state .waiting) (λ c w y1 y2 y3. takenRoomOf (recv-in c w) y1 y2) (λ c w y1 y2 y3. takenOutOf (recv-in c w) y1 y2) (λ c w y1 y2 y3. valueOr y3 (takenCountOf (recv-in c w) y1 y2)) (λ t y1 y2 y3. recv-read (recv-whole t) y1 y2 .answer) (λ t y1 y2 y3. recv-parts (recv-read (recv-whole t) y1 y2 .state)) (λ t y1 y2 y3. takenRoomOf (recv-whole t) y1 y2) (λ t y1 y2 y3. takenOutOf (recv-whole t) y1 y2) (λ t y1 y2 y3. valueOr y3 (takenCountOf (recv-whole t) y1 y2)) (λ t y1 y2 y3. stored t (λ s. recv-read s y1 y2 .answer)) (λ t y1 y2 y3. next-is t (λ s. recv-read s y1 y2 .state)) (λ t y1 y2 y3. stored t (λ s. takenRoomOf s y1 y2)) (λ t y1 y2 y3. stored t (λ s. takenOutOf s y1 y2)) (λ t y1 y2 y3. stored t (λ s. valueOr y3 (takenCountOf s y1 y2))))
+recv-read-promise = record { post = Part-vl-mmr.Post counts receiver-name table Receiver receiver-to receiver-one (λ t. t .counts) (λ t. refl) receiver-lawful (uint w8) (uint w8) (uint w64) (uint w32) counting recv-read-key.name (λ c w y1 y2 y3. countingOf (recv-read (recv-in c w) y1 y2)) (λ c w y1 y2 y3. recv-read (recv-in c w) y1 y2 .state .waiting) (λ c w y1 y2 y3. takenRoomOf (recv-in c w) y1 y2) (λ c w y1 y2 y3. takenOutOf (recv-in c w) y1 y2) (λ c w y1 y2 y3. valueOr y3 (takenCountOf (recv-in c w) y1 y2)) (λ t y1 y2 y3. recv-read (recv-whole t) y1 y2 .answer) (λ t y1 y2 y3. recv-parts (recv-read (recv-whole t) y1 y2 .state)) (λ t y1 y2 y3. takenRoomOf (recv-whole t) y1 y2) (λ t y1 y2 y3. takenOutOf (recv-whole t) y1 y2) (λ t y1 y2 y3. valueOr y3 (takenCountOf (recv-whole t) y1 y2)) (λ t y1 y2 y3. stored t (λ s. recv-read s y1 y2 .answer)) (λ t y1 y2 y3. next-is t (λ s. recv-read s y1 y2 .state)) (λ t y1 y2 y3. stored t (λ s. takenRoomOf s y1 y2)) (λ t y1 y2 y3. stored t (λ s. takenOutOf s y1 y2)) (λ t y1 y2 y3. stored t (λ s. valueOr y3 (takenCountOf s y1 y2))); asks-nothing = λ M 𝓤 H A mem run κs a g. refl; says = λ M 𝓤 H A mem run κs a g r e. refl; promise = Part-vl-mmr.promise counts receiver-name table Receiver receiver-to receiver-one (λ t. t .counts) (λ t. refl) receiver-lawful (uint w8) (uint w8) (uint w64) (uint w32) counting recv-read-key.name (λ c w y1 y2 y3. countingOf (recv-read (recv-in c w) y1 y2)) (λ c w y1 y2 y3. recv-read (recv-in c w) y1 y2 .state .waiting) (λ c w y1 y2 y3. takenRoomOf (recv-in c w) y1 y2) (λ c w y1 y2 y3. takenOutOf (recv-in c w) y1 y2) (λ c w y1 y2 y3. valueOr y3 (takenCountOf (recv-in c w) y1 y2)) (λ t y1 y2 y3. recv-read (recv-whole t) y1 y2 .answer) (λ t y1 y2 y3. recv-parts (recv-read (recv-whole t) y1 y2 .state)) (λ t y1 y2 y3. takenRoomOf (recv-whole t) y1 y2) (λ t y1 y2 y3. takenOutOf (recv-whole t) y1 y2) (λ t y1 y2 y3. valueOr y3 (takenCountOf (recv-whole t) y1 y2)) (λ t y1 y2 y3. stored t (λ s. recv-read s y1 y2 .answer)) (λ t y1 y2 y3. next-is t (λ s. recv-read s y1 y2 .state)) (λ t y1 y2 y3. stored t (λ s. takenRoomOf s y1 y2)) (λ t y1 y2 y3. stored t (λ s. takenOutOf s y1 y2)) (λ t y1 y2 y3. stored t (λ s. valueOr y3 (takenCountOf s y1 y2))) }
 
 recv-selective-ack-promise : Exported recv-selective-ack.ended (λ M 𝓤. recv-selective-ack.clauses 𝓤) (Ref-mr.seen receiver (uint w8) (uint w64) (uint w32) recv-selective-ack-key.name (λ s b n. numberOf (sackAnswer s b)) (λ s b n. ackedRoomOf s b) (λ s b n. valueOr n (sackAnswer s b)))
 recv-selective-ack-promise = record { post = Ref-mr.Post receiver (uint w8) (uint w64) (uint w32) recv-selective-ack-key.name (λ s b n. numberOf (sackAnswer s b)) (λ s b n. ackedRoomOf s b) (λ s b n. valueOr n (sackAnswer s b)); asks-nothing = λ M 𝓤 H A mem run κs a g. refl; says = λ M 𝓤 H A mem run κs a g r e. refl; promise = Ref-mr.promise receiver (uint w8) (uint w64) (uint w32) recv-selective-ack-key.name (λ s b n. numberOf (sackAnswer s b)) (λ s b n. ackedRoomOf s b) (λ s b n. valueOr n (sackAnswer s b)) }

@@ -4,3 +4,4 @@ pub mod Codec
 pub mod Tracker
 pub mod Receiver
 pub mod Parts
+pub mod Laws

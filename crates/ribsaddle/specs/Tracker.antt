@@ -2,6 +2,8 @@
 use Prim.Native.Nat.{ℕ}
 use mathlib.Core.Bool.{cond}
 use mathlib.Core.List.{List}
+use mathlib.Core.Path.{_≡_}
+use lib.ListN.{length, replicate}
 use lib.Ieee.{Float}
 use Rattle.common.specs.Answer.{Answer, done, refused}
 use Rattle.packet.specs.Layout.{typeNumber, typeAnswer}
@@ -14,7 +16,30 @@ use Rattle.sent.specs.declared.answer.LostPacket.{LostPacket}
 use Rattle.sent.specs.Lost.{lostAtOf}
 use Rattle.sent.specs.State.{newAnswer, timeoutAnswer, transmitAnswer, ackAnswer, whenStateSound, stateSoundOf, trackerOf, readOf}
 use Rattle.ribsaddle.specs.Answer.{numberOf}
-use Rattle.ribsaddle.specs.declared.tracker.Tracking.{Tracking}
+use Rattle.sent.specs.Lent.{Places, wholeIn, headOf, timesOf, sizesOf, marksOf, pairsOf}
+use Rattle.sent.specs.declared.lent.Head.{Head}
+use Rattle.ribsaddle.specs.declared.tracker.Heading.{Heading}
+use Rattle.ribsaddle.specs.declared.tracker.Starting.{Starting}
+use Rattle.ribsaddle.specs.declared.tracker.Tracker.{Tracker}
+
+-- ---- the tracker in parts, head and arrays, and the state that they make up
+
+abbrev pub wholeOf : Tracker → SentPackets
+wholeOf t = wholeIn (t .head) (t .samples) (t .times) (t .sizes) (t .marks)
+
+abbrev pub partsOf : SentPackets → Tracker
+partsOf s =
+    record {
+      head = headOf s;
+      samples = pairsOf (s .delays .kept);
+      times = timesOf (s .packets);
+      sizes = sizesOf (s .packets);
+      marks = marksOf (s .packets);
+    }
+
+-- The arrays have their lengths.
+abbrev pub Sized : (samples times sizes marks : List ℕ) → Type 0
+Sized samples times sizes marks = (length samples ≡ 2048) × (Places times sizes marks)
 
 -- ---- the numbers of what is read
 
@@ -38,12 +63,23 @@ lostTagOf p = p .tag
 
 -- ---- what a call answers, and the state after it
 
+pub record Tracking : Type 0 where
+  pub answer : ℕ
+  pub state : SentPackets
+
 abbrev pub trackingOf : Answer (Unit {0}) × SentPackets → Tracking
 trackingOf r = record { answer = numberOf (r .0); state = r .1 }
 
+-- the answer, with the head of the state beside it
+abbrev pub headingOf : Tracking → Heading
+headingOf r = record { answer = r .answer; head = headOf (r .state) }
+
+abbrev pub headingAs : Answer (Unit {0}) × Head → Heading
+headingAs r = record { answer = numberOf (r .0); head = r .1 }
+
 -- A new tracker is stored where the settings are in range; else what stood there stays.
-abbrev pub createdAs : SentPackets → Answer (Unit {0}) × SentPackets → Tracking
-createdAs old (done u, state) = record { answer = 0; state = state }
+abbrev pub createdAs : Tracker → Answer (Unit {0}) × SentPackets → Starting
+createdAs old (done u, state) = record { answer = 0; state = partsOf state }
 createdAs old (refused n, state) = record { answer = n; state = old }
 
 abbrev pub settingsOf : ℕ → ℕ → ℕ → ℕ → ℕ → ℕ → Float → Settings
@@ -58,7 +94,7 @@ settingsOf target first minimum largest increase window gain =
       «delay_window» = window;
     }
 
-unfoldable pub newOf : SentPackets → ℕ → ℕ → ℕ → ℕ → ℕ → ℕ → ℕ → Float → Tracking
+unfoldable pub newOf : Tracker → ℕ → ℕ → ℕ → ℕ → ℕ → ℕ → ℕ → Float → Starting
 newOf old initial target first minimum largest increase window gain =
     createdAs old (newAnswer (record { 0 = initial }) (settingsOf target first minimum largest increase window gain))
 
@@ -82,3 +118,19 @@ soundNumberOf s = cond (stateSoundOf s) 0 19
 
 unfoldable pub lostAnswer : SentPackets → ℕ → Answer LostPacket
 lostAnswer s position = whenStateSound s (lostAtOf (trackerOf s) position)
+
+-- ---- a fresh tracker's arrays hold zeros
+
+abbrev pub startedWith : Head → Tracker
+startedWith head =
+    record {
+      head = head;
+      samples = replicate 2048 0;
+      times = replicate 512 0;
+      sizes = replicate 1024 0;
+      marks = replicate 2048 0;
+    }
+
+abbrev pub startedAs : Tracker → Answer (Unit {0}) × Head → Starting
+startedAs old (done u, head) = record { answer = 0; state = startedWith head }
+startedAs old (refused n, head) = record { answer = n; state = old }

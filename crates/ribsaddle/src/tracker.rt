@@ -1,10 +1,11 @@
-// The tracker of sent packets behind a pointer.
+// The tracker of sent packets behind a pointer, which a call works on where it lies.
 ghost use mathlib.Core.Path.{_≡_};
-ghost use Rattle.sent.specs.Answers.{told};
+ghost use mathlib.Core.Bool.{cond};
+ghost use Rattle.sent.specs.Lent.{wholeIn, stepped, timesOf, sizesOf, marksOf, pairsOf};
 ghost use Rattle.sent.specs.State.{readOf};
 ghost use Rattle.sent.specs.Read.{timeoutIn, windowIn, inFlightIn, maximumIn, ackNumIn, nextSeqNumIn, seqNumRangeIn, hasUnackedIn, lostCountIn, hasLostIn};
 ghost use Rattle.ribsaddle.specs.Answer.{numberOf, partOr, valueOr, bitOf};
-ghost use Rattle.ribsaddle.specs.Tracker.{seqOf, startOf, endOf, lostNumberOf, lostTypeOf, lostTagOf, trackingOf, createdAs, newOf, transmitOf, ackOf, timeoutOf, soundNumberOf, lostAnswer};
+ghost use Rattle.ribsaddle.specs.Tracker.{Sized, wholeOf, partsOf, seqOf, startOf, endOf, lostNumberOf, lostTypeOf, lostTagOf, headingOf, headingAs, startedAs, newOf, transmitOf, ackOf, timeoutOf, soundNumberOf, lostAnswer};
 use crate::number;
 use crate::told;
 use congestion::settings::Settings;
@@ -12,32 +13,58 @@ use packet::header::PacketType;
 use packet::header::TypeRead;
 use packet::seq::SeqNum;
 use sent::answer::Outcome;
-use sent::answer::Tracked;
-use sent::state::SentPackets;
+use sent::lent::Head;
+use sent::lent::Stepped;
 
-// An answer's number, and the state beside it.
-pub(crate) struct Tracking {
+// A tracker with each array by itself, so that it can be lent. Of the packet at place i, `times` has
+// the time at i; `sizes` the tag at 2i and the length at 2i + 1; `marks` the type's number at 4i, and
+// whether it is acknowledged, lost and resent at the three places after. `samples` has the delay of
+// the sample at place i at 2i, and its time at 2i + 1.
+#[repr(C)]
+pub struct Tracker {
+    pub head: Head,
+    pub samples: [u64; 2048],
+    pub times: [u64; 512],
+    pub sizes: [u32; 1024],
+    pub marks: [u8; 2048],
+}
+
+// An answer's number, and the head beside it.
+pub(crate) struct Heading {
     pub answer: u32,
-    pub state: SentPackets,
+    pub head: Head,
 }
 
-fn numbered(tracked: Tracked) -> Tracking
-    ensures { λ r. ⌜ r ≡ trackingOf (told tracked) ⌝ }
+// An answer's number, and the tracker beside it.
+pub(crate) struct Starting {
+    pub answer: u32,
+    pub state: Tracker,
+}
+
+fn numbered(stepping: Stepped) -> Heading
+    ensures { λ r. ⌜ r ≡ headingAs (stepped stepping) ⌝ }
 {
-    let outcome = tracked.answer;
-    let state = tracked.state;
+    let outcome = stepping.answer;
+    let head = stepping.head;
     let answer = number::of_outcome(outcome);
-    Tracking { answer, state }
+    Heading { answer, head }
 }
 
-fn created(old: SentPackets, tracked: Tracked) -> Tracking
-    ensures { λ r. ⌜ r ≡ createdAs old (told tracked) ⌝ }
+fn created(old: Tracker, stepping: Stepped) -> Starting
+    ensures { λ r. ⌜ r ≡ startedAs old (stepped stepping) ⌝ }
 {
-    let outcome = tracked.answer;
-    let state = tracked.state;
+    let outcome = stepping.answer;
+    let head = stepping.head;
+    let state = Tracker {
+        head,
+        samples: [0; 2048],
+        times: [0; 512],
+        sizes: [0; 1024],
+        marks: [0; 2048],
+    };
     match outcome {
-        Outcome::Done => Tracking { answer: 0, state },
-        Outcome::Refused(reason) => Tracking {
+        Outcome::Done => Starting { answer: 0, state },
+        Outcome::Refused(reason) => Starting {
             answer: number::of_tracker(reason),
             state: old,
         },
@@ -45,7 +72,7 @@ fn created(old: SentPackets, tracked: Tracked) -> Tracking
 }
 
 pub(crate) fn create(
-    old: SentPackets,
+    old: Tracker,
     initial: u16,
     target_delay: u64,
     first_timeout: u64,
@@ -54,7 +81,7 @@ pub(crate) fn create(
     increase: u64,
     delay_window: u64,
     gain: f64,
-) -> Tracking
+) -> Starting
     ensures { λ r. ⌜ r ≡ newOf old initial «target_delay» «first_timeout» «minimum_timeout» «largest_packet» increase «delay_window» gain ⌝ }
 {
     let settings = Settings {
@@ -66,21 +93,33 @@ pub(crate) fn create(
         gain,
         delay_window,
     };
-    created(old, SentPackets::new(SeqNum(initial), settings))
+    created(old, Head::new(SeqNum(initial), settings))
 }
 
+// A transmit that leaves the arrays where they are.
 pub(crate) fn transmit(
-    state: SentPackets,
+    head: Head,
+    samples: &mut [u64; 2048],
+    times: &mut [u64; 512],
+    sizes: &mut [u32; 1024],
+    marks: &mut [u8; 2048],
     number: u16,
     packet_type: u8,
     tag: u32,
     len: u32,
     clock: u64,
-) -> Tracking
-    ensures { λ r. ⌜ r ≡ transmitOf state number «packet_type» tag len clock ⌝ }
+) -> Heading
+    requires { ⌜ Sized (now samples) (now times) (now sizes) (now marks) ⌝ }
+    ensures { λ r. ⌜ (r ≡ headingOf (transmitOf (wholeIn head (now (samples .entry)) (now (times .entry)) (now (sizes .entry)) (now (marks .entry))) number «packet_type» tag len clock)) × (now (samples .exit) ≡ pairsOf (transmitOf (wholeIn head (now (samples .entry)) (now (times .entry)) (now (sizes .entry)) (now (marks .entry))) number «packet_type» tag len clock .state .delays .kept))
+        × (now (times .exit) ≡ timesOf (transmitOf (wholeIn head (now (samples .entry)) (now (times .entry)) (now (sizes .entry)) (now (marks .entry))) number «packet_type» tag len clock .state .packets)) × (now (sizes .exit) ≡ sizesOf (transmitOf (wholeIn head (now (samples .entry)) (now (times .entry)) (now (sizes .entry)) (now (marks .entry))) number «packet_type» tag len clock .state .packets))
+        × (now (marks .exit) ≡ marksOf (transmitOf (wholeIn head (now (samples .entry)) (now (times .entry)) (now (sizes .entry)) (now (marks .entry))) number «packet_type» tag len clock .state .packets)) ⌝ }
 {
     match PacketType::of_number(packet_type) {
-        TypeRead::Known(known) => numbered(state.on_transmit(
+        TypeRead::Known(known) => numbered(head.on_transmit(
+            samples,
+            times,
+            sizes,
+            marks,
             SeqNum(number),
             known,
             tag,
@@ -88,111 +127,225 @@ pub(crate) fn transmit(
             clock,
         )),
         TypeRead::Unknown => {
-            if state.sound() {
-                return Tracking { answer: 2, state };
+            if head.sound(samples, times, sizes, marks) {
+                return Heading { answer: 2, head };
             }
-            Tracking { answer: 19, state }
+            Heading { answer: 19, head }
         }
     }
 }
 
-pub(crate) fn ack(state: SentPackets, number: u16, sack: &[u8], delay: u64, clock: u64) -> Tracking
-    ensures { λ r. ⌜ r ≡ ackOf state number (now (sack .entry)) delay clock ⌝ }
+// An ack that leaves the arrays where they are.
+pub(crate) fn ack(
+    head: Head,
+    samples: &mut [u64; 2048],
+    times: &mut [u64; 512],
+    sizes: &mut [u32; 1024],
+    marks: &mut [u8; 2048],
+    number: u16,
+    sack: &[u8],
+    delay: u64,
+    clock: u64,
+) -> Heading
+    ensures { λ r. ⌜ (r ≡ headingOf (ackOf (wholeIn head (now (samples .entry)) (now (times .entry)) (now (sizes .entry)) (now (marks .entry))) number (now (sack .entry)) delay clock)) × (now (samples .exit) ≡ pairsOf (ackOf (wholeIn head (now (samples .entry)) (now (times .entry)) (now (sizes .entry)) (now (marks .entry))) number (now (sack .entry)) delay clock .state .delays .kept))
+        × (now (times .exit) ≡ timesOf (ackOf (wholeIn head (now (samples .entry)) (now (times .entry)) (now (sizes .entry)) (now (marks .entry))) number (now (sack .entry)) delay clock .state .packets)) × (now (sizes .exit) ≡ sizesOf (ackOf (wholeIn head (now (samples .entry)) (now (times .entry)) (now (sizes .entry)) (now (marks .entry))) number (now (sack .entry)) delay clock .state .packets))
+        × (now (marks .exit) ≡ marksOf (ackOf (wholeIn head (now (samples .entry)) (now (times .entry)) (now (sizes .entry)) (now (marks .entry))) number (now (sack .entry)) delay clock .state .packets)) ⌝ }
 {
-    numbered(state.on_ack(SeqNum(number), sack, delay, clock))
+    numbered(head.on_ack(
+        samples,
+        times,
+        sizes,
+        marks,
+        SeqNum(number),
+        sack,
+        delay,
+        clock,
+    ))
 }
 
-pub(crate) fn time_out(state: SentPackets) -> Tracking
-    ensures { λ r. ⌜ r ≡ timeoutOf state ⌝ }
+// A timeout event that leaves the arrays where they are.
+pub(crate) fn time_out(
+    head: Head,
+    samples: &mut [u64; 2048],
+    times: &mut [u64; 512],
+    sizes: &mut [u32; 1024],
+    marks: &mut [u8; 2048],
+) -> Heading
+    requires { ⌜ Sized (now samples) (now times) (now sizes) (now marks) ⌝ }
+    ensures { λ r. ⌜ (r ≡ headingOf (timeoutOf (wholeIn head (now (samples .entry)) (now (times .entry)) (now (sizes .entry)) (now (marks .entry))))) × (now (samples .exit) ≡ pairsOf (timeoutOf (wholeIn head (now (samples .entry)) (now (times .entry)) (now (sizes .entry)) (now (marks .entry))) .state .delays .kept))
+        × (now (times .exit) ≡ timesOf (timeoutOf (wholeIn head (now (samples .entry)) (now (times .entry)) (now (sizes .entry)) (now (marks .entry))) .state .packets)) × (now (sizes .exit) ≡ sizesOf (timeoutOf (wholeIn head (now (samples .entry)) (now (times .entry)) (now (sizes .entry)) (now (marks .entry))) .state .packets))
+        × (now (marks .exit) ≡ marksOf (timeoutOf (wholeIn head (now (samples .entry)) (now (times .entry)) (now (sizes .entry)) (now (marks .entry))) .state .packets)) ⌝ }
 {
-    numbered(state.on_timeout())
+    numbered(head.on_timeout(samples, times, sizes, marks))
 }
 
-pub(crate) fn soundness(state: SentPackets) -> u32
-    ensures { λ r. ⌜ r ≡ soundNumberOf state ⌝ }
+// 0 for a state that is sound, else 19.
+fn sound_number(sound: bool) -> u32
+    ensures { λ r. ⌜ r ≡ cond sound 0 19 ⌝ }
 {
-    if state.sound() { 0 } else { 19 }
+    if sound { 0 } else { 19 }
 }
 
-pub(crate) fn timeout(state: SentPackets, value: &mut u64) -> u32
-    ensures { λ r. ⌜ (r ≡ numberOf (readOf state timeoutIn)) × (now (value .exit) ≡ valueOr (now (value .entry)) (readOf state timeoutIn)) ⌝ }
+pub(crate) fn soundness(state: Tracker) -> u32
+    ensures { λ r. ⌜ r ≡ soundNumberOf (wholeOf state) ⌝ }
 {
-    told::tell_number(state.timeout(), value)
+    let head = state.head;
+    let samples = state.samples;
+    let times = state.times;
+    let sizes = state.sizes;
+    let marks = state.marks;
+    sound_number(head.sound(&samples, &times, &sizes, &marks))
 }
 
-pub(crate) fn window(state: SentPackets, value: &mut u64) -> u32
-    ensures { λ r. ⌜ (r ≡ numberOf (readOf state windowIn)) × (now (value .exit) ≡ valueOr (now (value .entry)) (readOf state windowIn)) ⌝ }
+pub(crate) fn timeout(state: Tracker, value: &mut u64) -> u32
+    ensures { λ r. ⌜ (r ≡ numberOf (readOf (wholeOf state) timeoutIn)) × (now (value .exit) ≡ valueOr (now (value .entry)) (readOf (wholeOf state) timeoutIn)) ⌝ }
 {
-    told::tell_number(state.window(), value)
+    let head = state.head;
+    let samples = state.samples;
+    let times = state.times;
+    let sizes = state.sizes;
+    let marks = state.marks;
+    told::tell_number(head.timeout(&samples, &times, &sizes, &marks), value)
 }
 
-pub(crate) fn in_flight(state: SentPackets, value: &mut u64) -> u32
-    ensures { λ r. ⌜ (r ≡ numberOf (readOf state inFlightIn)) × (now (value .exit) ≡ valueOr (now (value .entry)) (readOf state inFlightIn)) ⌝ }
+pub(crate) fn window(state: Tracker, value: &mut u64) -> u32
+    ensures { λ r. ⌜ (r ≡ numberOf (readOf (wholeOf state) windowIn)) × (now (value .exit) ≡ valueOr (now (value .entry)) (readOf (wholeOf state) windowIn)) ⌝ }
 {
-    told::tell_number(state.in_flight(), value)
+    let head = state.head;
+    let samples = state.samples;
+    let times = state.times;
+    let sizes = state.sizes;
+    let marks = state.marks;
+    told::tell_number(head.window(&samples, &times, &sizes, &marks), value)
 }
 
-pub(crate) fn maximum(state: SentPackets, value: &mut u64) -> u32
-    ensures { λ r. ⌜ (r ≡ numberOf (readOf state maximumIn)) × (now (value .exit) ≡ valueOr (now (value .entry)) (readOf state maximumIn)) ⌝ }
+pub(crate) fn in_flight(state: Tracker, value: &mut u64) -> u32
+    ensures { λ r. ⌜ (r ≡ numberOf (readOf (wholeOf state) inFlightIn)) × (now (value .exit) ≡ valueOr (now (value .entry)) (readOf (wholeOf state) inFlightIn)) ⌝ }
 {
-    told::tell_number(state.maximum(), value)
+    let head = state.head;
+    let samples = state.samples;
+    let times = state.times;
+    let sizes = state.sizes;
+    let marks = state.marks;
+    told::tell_number(head.in_flight(&samples, &times, &sizes, &marks), value)
 }
 
-pub(crate) fn lost_count(state: SentPackets, value: &mut u64) -> u32
-    ensures { λ r. ⌜ (r ≡ numberOf (readOf state lostCountIn)) × (now (value .exit) ≡ valueOr (now (value .entry)) (readOf state lostCountIn)) ⌝ }
+pub(crate) fn maximum(state: Tracker, value: &mut u64) -> u32
+    ensures { λ r. ⌜ (r ≡ numberOf (readOf (wholeOf state) maximumIn)) × (now (value .exit) ≡ valueOr (now (value .entry)) (readOf (wholeOf state) maximumIn)) ⌝ }
 {
-    told::tell_number(state.lost_count(), value)
+    let head = state.head;
+    let samples = state.samples;
+    let times = state.times;
+    let sizes = state.sizes;
+    let marks = state.marks;
+    told::tell_number(head.maximum(&samples, &times, &sizes, &marks), value)
 }
 
-pub(crate) fn ack_num(state: SentPackets, value: &mut u64) -> u32
-    ensures { λ r. ⌜ (r ≡ numberOf (readOf state ackNumIn)) × (now (value .exit) ≡ partOr seqOf (now (value .entry)) (readOf state ackNumIn)) ⌝ }
+pub(crate) fn lost_count(state: Tracker, value: &mut u64) -> u32
+    ensures { λ r. ⌜ (r ≡ numberOf (readOf (wholeOf state) lostCountIn)) × (now (value .exit) ≡ valueOr (now (value .entry)) (readOf (wholeOf state) lostCountIn)) ⌝ }
 {
-    told::tell_seq(state.ack_num(), value)
+    let head = state.head;
+    let samples = state.samples;
+    let times = state.times;
+    let sizes = state.sizes;
+    let marks = state.marks;
+    told::tell_number(head.lost_count(&samples, &times, &sizes, &marks), value)
 }
 
-pub(crate) fn next_seq_num(state: SentPackets, value: &mut u64) -> u32
-    ensures { λ r. ⌜ (r ≡ numberOf (readOf state nextSeqNumIn)) × (now (value .exit) ≡ partOr seqOf (now (value .entry)) (readOf state nextSeqNumIn)) ⌝ }
+pub(crate) fn ack_num(state: Tracker, value: &mut u64) -> u32
+    ensures { λ r. ⌜ (r ≡ numberOf (readOf (wholeOf state) ackNumIn)) × (now (value .exit) ≡ partOr seqOf (now (value .entry)) (readOf (wholeOf state) ackNumIn)) ⌝ }
 {
-    told::tell_seq(state.next_seq_num(), value)
+    let head = state.head;
+    let samples = state.samples;
+    let times = state.times;
+    let sizes = state.sizes;
+    let marks = state.marks;
+    told::tell_seq(head.ack_num(&samples, &times, &sizes, &marks), value)
 }
 
-pub(crate) fn has_unacked(state: SentPackets, value: &mut u64) -> u32
-    ensures { λ r. ⌜ (r ≡ numberOf (readOf state hasUnackedIn)) × (now (value .exit) ≡ partOr bitOf (now (value .entry)) (readOf state hasUnackedIn)) ⌝ }
+pub(crate) fn next_seq_num(state: Tracker, value: &mut u64) -> u32
+    ensures { λ r. ⌜ (r ≡ numberOf (readOf (wholeOf state) nextSeqNumIn)) × (now (value .exit) ≡ partOr seqOf (now (value .entry)) (readOf (wholeOf state) nextSeqNumIn)) ⌝ }
 {
-    told::tell_truth(state.has_unacked_packets(), value)
+    let head = state.head;
+    let samples = state.samples;
+    let times = state.times;
+    let sizes = state.sizes;
+    let marks = state.marks;
+    told::tell_seq(head.next_seq_num(&samples, &times, &sizes, &marks), value)
 }
 
-pub(crate) fn has_lost(state: SentPackets, value: &mut u64) -> u32
-    ensures { λ r. ⌜ (r ≡ numberOf (readOf state hasLostIn)) × (now (value .exit) ≡ partOr bitOf (now (value .entry)) (readOf state hasLostIn)) ⌝ }
+pub(crate) fn has_unacked(state: Tracker, value: &mut u64) -> u32
+    ensures { λ r. ⌜ (r ≡ numberOf (readOf (wholeOf state) hasUnackedIn)) × (now (value .exit) ≡ partOr bitOf (now (value .entry)) (readOf (wholeOf state) hasUnackedIn)) ⌝ }
 {
-    told::tell_truth(state.has_lost_packets(), value)
+    let head = state.head;
+    let samples = state.samples;
+    let times = state.times;
+    let sizes = state.sizes;
+    let marks = state.marks;
+    told::tell_truth(
+        head.has_unacked_packets(&samples, &times, &sizes, &marks),
+        value,
+    )
 }
 
-pub(crate) fn range(state: SentPackets, start: &mut u64, end: &mut u64) -> u32
-    ensures { λ r. ⌜ (r ≡ numberOf (readOf state seqNumRangeIn)) × (now (start .exit) ≡ partOr startOf (now (start .entry)) (readOf state seqNumRangeIn))
-        × (now (end .exit) ≡ partOr endOf (now (end .entry)) (readOf state seqNumRangeIn)) ⌝ }
+pub(crate) fn has_lost(state: Tracker, value: &mut u64) -> u32
+    ensures { λ r. ⌜ (r ≡ numberOf (readOf (wholeOf state) hasLostIn)) × (now (value .exit) ≡ partOr bitOf (now (value .entry)) (readOf (wholeOf state) hasLostIn)) ⌝ }
 {
-    told::tell_range(state.seq_num_range(), start, end)
+    let head = state.head;
+    let samples = state.samples;
+    let times = state.times;
+    let sizes = state.sizes;
+    let marks = state.marks;
+    told::tell_truth(
+        head.has_lost_packets(&samples, &times, &sizes, &marks),
+        value,
+    )
+}
+
+pub(crate) fn range(state: Tracker, start: &mut u64, end: &mut u64) -> u32
+    ensures { λ r. ⌜ (r ≡ numberOf (readOf (wholeOf state) seqNumRangeIn)) × (now (start .exit) ≡ partOr startOf (now (start .entry)) (readOf (wholeOf state) seqNumRangeIn))
+        × (now (end .exit) ≡ partOr endOf (now (end .entry)) (readOf (wholeOf state) seqNumRangeIn)) ⌝ }
+{
+    let head = state.head;
+    let samples = state.samples;
+    let times = state.times;
+    let sizes = state.sizes;
+    let marks = state.marks;
+    told::tell_range(
+        head.seq_num_range(&samples, &times, &sizes, &marks),
+        start,
+        end,
+    )
 }
 
 pub(crate) fn lost_at(
-    state: SentPackets,
+    state: Tracker,
     position: u32,
     number: &mut u64,
     packet_type: &mut u64,
     tag: &mut u64,
 ) -> u32
-    ensures { λ r. ⌜ (r ≡ numberOf (lostAnswer state position)) × (now (number .exit) ≡ partOr lostNumberOf (now (number .entry)) (lostAnswer state position))
-        × (now («packet_type» .exit) ≡ partOr lostTypeOf (now («packet_type» .entry)) (lostAnswer state position))
-        × (now (tag .exit) ≡ partOr lostTagOf (now (tag .entry)) (lostAnswer state position)) ⌝ }
+    ensures { λ r. ⌜ (r ≡ numberOf (lostAnswer (wholeOf state) position)) × (now (number .exit) ≡ partOr lostNumberOf (now (number .entry)) (lostAnswer (wholeOf state) position))
+        × (now («packet_type» .exit) ≡ partOr lostTypeOf (now («packet_type» .entry)) (lostAnswer (wholeOf state) position))
+        × (now (tag .exit) ≡ partOr lostTagOf (now (tag .entry)) (lostAnswer (wholeOf state) position)) ⌝ }
 {
-    told::tell_lost(state.lost_at(position), number, packet_type, tag)
+    let head = state.head;
+    let samples = state.samples;
+    let times = state.times;
+    let sizes = state.sizes;
+    let marks = state.marks;
+    told::tell_lost(
+        head.lost_at(&samples, &times, &sizes, &marks, position),
+        number,
+        packet_type,
+        tag,
+    )
 }
 
 // A fresh tracker, whose first packet has the number after `initial`. Refuses with 10.
 #[no_mangle]
 pub extern "C" fn ribsaddle_sent_new(
-    sent: &mut SentPackets,
+    sent: &mut Tracker,
     initial: u16,
     target_delay: u64,
     first_timeout: u64,
@@ -206,7 +359,7 @@ pub extern "C" fn ribsaddle_sent_new(
         × (now (sent .exit) ≡ newOf (now (sent .entry)) initial «target_delay» «first_timeout» «minimum_timeout» «largest_packet» increase «delay_window» gain .state) ⌝ }
 {
     let old = *sent;
-    let tracking = create(
+    let starting = create(
         old,
         initial,
         target_delay,
@@ -217,60 +370,87 @@ pub extern "C" fn ribsaddle_sent_new(
         delay_window,
         gain,
     );
-    *sent = tracking.state;
-    tracking.answer
+    *sent = starting.state;
+    starting.answer
 }
 
 // A packet goes out. Refuses with 19, 2, 11, 12, and a first transmit with 15, 13, 14.
 #[no_mangle]
 pub extern "C" fn ribsaddle_sent_transmit(
-    sent: &mut SentPackets,
+    sent: &mut Tracker,
     number: u16,
     packet_type: u8,
     tag: u32,
     len: u32,
     clock: u64,
 ) -> u32
-    ensures { λ r. ⌜ (r ≡ transmitOf (now (sent .entry)) number «packet_type» tag len clock .answer) × (now (sent .exit) ≡ transmitOf (now (sent .entry)) number «packet_type» tag len clock .state) ⌝ }
+    ensures { λ r. ⌜ (r ≡ transmitOf (wholeOf (now (sent .entry))) number «packet_type» tag len clock .answer) × (now (sent .exit) ≡ partsOf (transmitOf (wholeOf (now (sent .entry))) number «packet_type» tag len clock .state)) ⌝ }
 {
-    let old = *sent;
-    let tracking = transmit(old, number, packet_type, tag, len, clock);
-    *sent = tracking.state;
-    tracking.answer
+    let head = sent.head;
+    let heading = transmit(
+        head,
+        &mut sent.samples,
+        &mut sent.times,
+        &mut sent.sizes,
+        &mut sent.marks,
+        number,
+        packet_type,
+        tag,
+        len,
+        clock,
+    );
+    sent.head = heading.head;
+    heading.answer
 }
 
 // An ack with a SACK (no bytes: none) comes in. Refuses with 19, 11, 5, 6, 8, 12.
 #[no_mangle]
 pub extern "C" fn ribsaddle_sent_ack(
-    sent: &mut SentPackets,
+    sent: &mut Tracker,
     number: u16,
     sack: &[u8],
     delay: u64,
     clock: u64,
 ) -> u32
-    ensures { λ r. ⌜ (r ≡ ackOf (now (sent .entry)) number (now (sack .entry)) delay clock .answer) × (now (sent .exit) ≡ ackOf (now (sent .entry)) number (now (sack .entry)) delay clock .state) ⌝ }
+    ensures { λ r. ⌜ (r ≡ ackOf (wholeOf (now (sent .entry))) number (now (sack .entry)) delay clock .answer) × (now (sent .exit) ≡ partsOf (ackOf (wholeOf (now (sent .entry))) number (now (sack .entry)) delay clock .state)) ⌝ }
 {
-    let old = *sent;
-    let tracking = ack(old, number, sack, delay, clock);
-    *sent = tracking.state;
-    tracking.answer
+    let head = sent.head;
+    let heading = ack(
+        head,
+        &mut sent.samples,
+        &mut sent.times,
+        &mut sent.sizes,
+        &mut sent.marks,
+        number,
+        sack,
+        delay,
+        clock,
+    );
+    sent.head = heading.head;
+    heading.answer
 }
 
 // A timeout event. Refuses with 19.
 #[no_mangle]
-pub extern "C" fn ribsaddle_sent_on_timeout(sent: &mut SentPackets) -> u32
-    ensures { λ r. ⌜ (r ≡ timeoutOf (now (sent .entry)) .answer) × (now (sent .exit) ≡ timeoutOf (now (sent .entry)) .state) ⌝ }
+pub extern "C" fn ribsaddle_sent_on_timeout(sent: &mut Tracker) -> u32
+    ensures { λ r. ⌜ (r ≡ timeoutOf (wholeOf (now (sent .entry))) .answer) × (now (sent .exit) ≡ partsOf (timeoutOf (wholeOf (now (sent .entry))) .state)) ⌝ }
 {
-    let old = *sent;
-    let tracking = time_out(old);
-    *sent = tracking.state;
-    tracking.answer
+    let head = sent.head;
+    let heading = time_out(
+        head,
+        &mut sent.samples,
+        &mut sent.times,
+        &mut sent.sizes,
+        &mut sent.marks,
+    );
+    sent.head = heading.head;
+    heading.answer
 }
 
 // 0 for a sound state, else 19.
 #[no_mangle]
-pub extern "C" fn ribsaddle_sent_sound(sent: &SentPackets) -> u32
-    ensures { λ r. ⌜ r ≡ soundNumberOf (now (sent .entry)) ⌝ }
+pub extern "C" fn ribsaddle_sent_sound(sent: &Tracker) -> u32
+    ensures { λ r. ⌜ r ≡ soundNumberOf (wholeOf (now (sent .entry))) ⌝ }
 {
     let state = *sent;
     soundness(state)
@@ -278,8 +458,8 @@ pub extern "C" fn ribsaddle_sent_sound(sent: &SentPackets) -> u32
 
 // The timeout. This and what follows refuse with 19.
 #[no_mangle]
-pub extern "C" fn ribsaddle_sent_timeout(sent: &SentPackets, value: &mut u64) -> u32
-    ensures { λ r. ⌜ (r ≡ numberOf (readOf (now (sent .entry)) timeoutIn)) × (now (value .exit) ≡ valueOr (now (value .entry)) (readOf (now (sent .entry)) timeoutIn)) ⌝ }
+pub extern "C" fn ribsaddle_sent_timeout(sent: &Tracker, value: &mut u64) -> u32
+    ensures { λ r. ⌜ (r ≡ numberOf (readOf (wholeOf (now (sent .entry))) timeoutIn)) × (now (value .exit) ≡ valueOr (now (value .entry)) (readOf (wholeOf (now (sent .entry))) timeoutIn)) ⌝ }
 {
     let state = *sent;
     timeout(state, value)
@@ -287,8 +467,8 @@ pub extern "C" fn ribsaddle_sent_timeout(sent: &SentPackets, value: &mut u64) ->
 
 // How many bytes may be sent now.
 #[no_mangle]
-pub extern "C" fn ribsaddle_sent_window(sent: &SentPackets, value: &mut u64) -> u32
-    ensures { λ r. ⌜ (r ≡ numberOf (readOf (now (sent .entry)) windowIn)) × (now (value .exit) ≡ valueOr (now (value .entry)) (readOf (now (sent .entry)) windowIn)) ⌝ }
+pub extern "C" fn ribsaddle_sent_window(sent: &Tracker, value: &mut u64) -> u32
+    ensures { λ r. ⌜ (r ≡ numberOf (readOf (wholeOf (now (sent .entry))) windowIn)) × (now (value .exit) ≡ valueOr (now (value .entry)) (readOf (wholeOf (now (sent .entry))) windowIn)) ⌝ }
 {
     let state = *sent;
     window(state, value)
@@ -296,8 +476,8 @@ pub extern "C" fn ribsaddle_sent_window(sent: &SentPackets, value: &mut u64) -> 
 
 // The bytes in flight.
 #[no_mangle]
-pub extern "C" fn ribsaddle_sent_in_flight(sent: &SentPackets, value: &mut u64) -> u32
-    ensures { λ r. ⌜ (r ≡ numberOf (readOf (now (sent .entry)) inFlightIn)) × (now (value .exit) ≡ valueOr (now (value .entry)) (readOf (now (sent .entry)) inFlightIn)) ⌝ }
+pub extern "C" fn ribsaddle_sent_in_flight(sent: &Tracker, value: &mut u64) -> u32
+    ensures { λ r. ⌜ (r ≡ numberOf (readOf (wholeOf (now (sent .entry))) inFlightIn)) × (now (value .exit) ≡ valueOr (now (value .entry)) (readOf (wholeOf (now (sent .entry))) inFlightIn)) ⌝ }
 {
     let state = *sent;
     in_flight(state, value)
@@ -305,8 +485,8 @@ pub extern "C" fn ribsaddle_sent_in_flight(sent: &SentPackets, value: &mut u64) 
 
 // The maximum of the window.
 #[no_mangle]
-pub extern "C" fn ribsaddle_sent_maximum(sent: &SentPackets, value: &mut u64) -> u32
-    ensures { λ r. ⌜ (r ≡ numberOf (readOf (now (sent .entry)) maximumIn)) × (now (value .exit) ≡ valueOr (now (value .entry)) (readOf (now (sent .entry)) maximumIn)) ⌝ }
+pub extern "C" fn ribsaddle_sent_maximum(sent: &Tracker, value: &mut u64) -> u32
+    ensures { λ r. ⌜ (r ≡ numberOf (readOf (wholeOf (now (sent .entry))) maximumIn)) × (now (value .exit) ≡ valueOr (now (value .entry)) (readOf (wholeOf (now (sent .entry))) maximumIn)) ⌝ }
 {
     let state = *sent;
     maximum(state, value)
@@ -314,8 +494,8 @@ pub extern "C" fn ribsaddle_sent_maximum(sent: &SentPackets, value: &mut u64) ->
 
 // How many packets are lost.
 #[no_mangle]
-pub extern "C" fn ribsaddle_sent_lost_count(sent: &SentPackets, value: &mut u64) -> u32
-    ensures { λ r. ⌜ (r ≡ numberOf (readOf (now (sent .entry)) lostCountIn)) × (now (value .exit) ≡ valueOr (now (value .entry)) (readOf (now (sent .entry)) lostCountIn)) ⌝ }
+pub extern "C" fn ribsaddle_sent_lost_count(sent: &Tracker, value: &mut u64) -> u32
+    ensures { λ r. ⌜ (r ≡ numberOf (readOf (wholeOf (now (sent .entry))) lostCountIn)) × (now (value .exit) ≡ valueOr (now (value .entry)) (readOf (wholeOf (now (sent .entry))) lostCountIn)) ⌝ }
 {
     let state = *sent;
     lost_count(state, value)
@@ -323,8 +503,8 @@ pub extern "C" fn ribsaddle_sent_lost_count(sent: &SentPackets, value: &mut u64)
 
 // The last number of the acknowledged run, or 0 if none.
 #[no_mangle]
-pub extern "C" fn ribsaddle_sent_ack_num(sent: &SentPackets, value: &mut u64) -> u32
-    ensures { λ r. ⌜ (r ≡ numberOf (readOf (now (sent .entry)) ackNumIn)) × (now (value .exit) ≡ partOr seqOf (now (value .entry)) (readOf (now (sent .entry)) ackNumIn)) ⌝ }
+pub extern "C" fn ribsaddle_sent_ack_num(sent: &Tracker, value: &mut u64) -> u32
+    ensures { λ r. ⌜ (r ≡ numberOf (readOf (wholeOf (now (sent .entry))) ackNumIn)) × (now (value .exit) ≡ partOr seqOf (now (value .entry)) (readOf (wholeOf (now (sent .entry))) ackNumIn)) ⌝ }
 {
     let state = *sent;
     ack_num(state, value)
@@ -332,8 +512,8 @@ pub extern "C" fn ribsaddle_sent_ack_num(sent: &SentPackets, value: &mut u64) ->
 
 // The number of the next packet.
 #[no_mangle]
-pub extern "C" fn ribsaddle_sent_next_seq_num(sent: &SentPackets, value: &mut u64) -> u32
-    ensures { λ r. ⌜ (r ≡ numberOf (readOf (now (sent .entry)) nextSeqNumIn)) × (now (value .exit) ≡ partOr seqOf (now (value .entry)) (readOf (now (sent .entry)) nextSeqNumIn)) ⌝ }
+pub extern "C" fn ribsaddle_sent_next_seq_num(sent: &Tracker, value: &mut u64) -> u32
+    ensures { λ r. ⌜ (r ≡ numberOf (readOf (wholeOf (now (sent .entry))) nextSeqNumIn)) × (now (value .exit) ≡ partOr seqOf (now (value .entry)) (readOf (wholeOf (now (sent .entry))) nextSeqNumIn)) ⌝ }
 {
     let state = *sent;
     next_seq_num(state, value)
@@ -341,8 +521,8 @@ pub extern "C" fn ribsaddle_sent_next_seq_num(sent: &SentPackets, value: &mut u6
 
 // 1 where a packet is not acknowledged, else 0.
 #[no_mangle]
-pub extern "C" fn ribsaddle_sent_has_unacked(sent: &SentPackets, value: &mut u64) -> u32
-    ensures { λ r. ⌜ (r ≡ numberOf (readOf (now (sent .entry)) hasUnackedIn)) × (now (value .exit) ≡ partOr bitOf (now (value .entry)) (readOf (now (sent .entry)) hasUnackedIn)) ⌝ }
+pub extern "C" fn ribsaddle_sent_has_unacked(sent: &Tracker, value: &mut u64) -> u32
+    ensures { λ r. ⌜ (r ≡ numberOf (readOf (wholeOf (now (sent .entry))) hasUnackedIn)) × (now (value .exit) ≡ partOr bitOf (now (value .entry)) (readOf (wholeOf (now (sent .entry))) hasUnackedIn)) ⌝ }
 {
     let state = *sent;
     has_unacked(state, value)
@@ -350,8 +530,8 @@ pub extern "C" fn ribsaddle_sent_has_unacked(sent: &SentPackets, value: &mut u64
 
 // 1 where a packet is lost, else 0.
 #[no_mangle]
-pub extern "C" fn ribsaddle_sent_has_lost(sent: &SentPackets, value: &mut u64) -> u32
-    ensures { λ r. ⌜ (r ≡ numberOf (readOf (now (sent .entry)) hasLostIn)) × (now (value .exit) ≡ partOr bitOf (now (value .entry)) (readOf (now (sent .entry)) hasLostIn)) ⌝ }
+pub extern "C" fn ribsaddle_sent_has_lost(sent: &Tracker, value: &mut u64) -> u32
+    ensures { λ r. ⌜ (r ≡ numberOf (readOf (wholeOf (now (sent .entry))) hasLostIn)) × (now (value .exit) ≡ partOr bitOf (now (value .entry)) (readOf (wholeOf (now (sent .entry))) hasLostIn)) ⌝ }
 {
     let state = *sent;
     has_lost(state, value)
@@ -359,9 +539,9 @@ pub extern "C" fn ribsaddle_sent_has_lost(sent: &SentPackets, value: &mut u64) -
 
 // The numbers from the initial one to the last sent.
 #[no_mangle]
-pub extern "C" fn ribsaddle_sent_range(sent: &SentPackets, start: &mut u64, end: &mut u64) -> u32
-    ensures { λ r. ⌜ (r ≡ numberOf (readOf (now (sent .entry)) seqNumRangeIn)) × (now (start .exit) ≡ partOr startOf (now (start .entry)) (readOf (now (sent .entry)) seqNumRangeIn))
-        × (now (end .exit) ≡ partOr endOf (now (end .entry)) (readOf (now (sent .entry)) seqNumRangeIn)) ⌝ }
+pub extern "C" fn ribsaddle_sent_range(sent: &Tracker, start: &mut u64, end: &mut u64) -> u32
+    ensures { λ r. ⌜ (r ≡ numberOf (readOf (wholeOf (now (sent .entry))) seqNumRangeIn)) × (now (start .exit) ≡ partOr startOf (now (start .entry)) (readOf (wholeOf (now (sent .entry))) seqNumRangeIn))
+        × (now (end .exit) ≡ partOr endOf (now (end .entry)) (readOf (wholeOf (now (sent .entry))) seqNumRangeIn)) ⌝ }
 {
     let state = *sent;
     range(state, start, end)
@@ -370,15 +550,15 @@ pub extern "C" fn ribsaddle_sent_range(sent: &SentPackets, start: &mut u64, end:
 // The lost packet at a position, from 0, in ascending order of the number. Refuses with 19, 12.
 #[no_mangle]
 pub extern "C" fn ribsaddle_sent_lost_at(
-    sent: &SentPackets,
+    sent: &Tracker,
     position: u32,
     number: &mut u64,
     packet_type: &mut u64,
     tag: &mut u64,
 ) -> u32
-    ensures { λ r. ⌜ (r ≡ numberOf (lostAnswer (now (sent .entry)) position)) × (now (number .exit) ≡ partOr lostNumberOf (now (number .entry)) (lostAnswer (now (sent .entry)) position))
-        × (now («packet_type» .exit) ≡ partOr lostTypeOf (now («packet_type» .entry)) (lostAnswer (now (sent .entry)) position))
-        × (now (tag .exit) ≡ partOr lostTagOf (now (tag .entry)) (lostAnswer (now (sent .entry)) position)) ⌝ }
+    ensures { λ r. ⌜ (r ≡ numberOf (lostAnswer (wholeOf (now (sent .entry))) position)) × (now (number .exit) ≡ partOr lostNumberOf (now (number .entry)) (lostAnswer (wholeOf (now (sent .entry))) position))
+        × (now («packet_type» .exit) ≡ partOr lostTypeOf (now («packet_type» .entry)) (lostAnswer (wholeOf (now (sent .entry))) position))
+        × (now (tag .exit) ≡ partOr lostTagOf (now (tag .entry)) (lostAnswer (wholeOf (now (sent .entry))) position)) ⌝ }
 {
     let state = *sent;
     lost_at(state, position, number, packet_type, tag)

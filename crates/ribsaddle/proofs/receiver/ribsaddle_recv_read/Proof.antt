@@ -1,9 +1,9 @@
 -- `ribsaddle::receiver::ribsaddle_recv_read` meets its contract, by the walk of its form and the contract of `read`. Assumes nothing.
 use mathlib.Core.Path.{refl}
-use Rattle.ribsaddle.specs.declared.receiver.Receiver.{Receiver}
-use Rattle.ribsaddle.specs.Parts.{countingOf, partsOf, wholeIn, wholeOf}
 use mir.Syntax.{w8, w32, w64}
 use Rattle.ribsaddle.specs.Answer.{valueOr}
+use Rattle.ribsaddle.specs.Parts.{countingOf, wholeIn, wholeOf, partsOf}
+use Rattle.ribsaddle.specs.declared.receiver.Receiver.{Receiver}
 use Rattle.ribsaddle.specs.Receiver.{readOf, takenCountOf}
 use Rattle.recv.specs.Calls.{takenRoomOf, takenOutOf}
 use Rattle.ribsaddle.proofs.receiver.read.Symbol as callee

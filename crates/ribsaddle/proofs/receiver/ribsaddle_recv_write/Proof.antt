@@ -1,8 +1,8 @@
 -- `ribsaddle::receiver::ribsaddle_recv_write` meets its contract, by the walk of its form and the contract of `write`. Assumes nothing.
 use mathlib.Core.Path.{refl}
-use Rattle.ribsaddle.specs.declared.receiver.Receiver.{Receiver}
-use Rattle.ribsaddle.specs.Parts.{countingOf, partsOf, wholeIn, wholeOf}
 use mir.Syntax.{w8, w16, w32}
+use Rattle.ribsaddle.specs.Parts.{countingOf, wholeIn, wholeOf, partsOf}
+use Rattle.ribsaddle.specs.declared.receiver.Receiver.{Receiver}
 use Rattle.ribsaddle.specs.Receiver.{writeOf}
 use Rattle.recv.specs.Calls.{writtenRoomOf}
 use Rattle.ribsaddle.proofs.receiver.write.Symbol as callee

@@ -2,16 +2,16 @@
 use mathlib.Core.Path.{_∙_, ap, sym}
 use Prim.Native.Nat.{ℕ}
 use Rattle.sent.specs.declared.answer.Outcome.{Outcome}
-use Rattle.sent.specs.declared.state.SentPackets.{SentPackets}
 use Rattle.sent.specs.Answers.{outcome}
-use Rattle.ribsaddle.specs.Tracker.{createdAs}
-use Rattle.ribsaddle.specs.declared.tracker.Tracking.{Tracking}
+use Rattle.ribsaddle.specs.Tracker.{startedAs}
+use Rattle.ribsaddle.specs.declared.tracker.Starting.{Starting}
+use Rattle.ribsaddle.specs.declared.tracker.Tracker.{Tracker}
 use borrow.Author.Needs.{needs}
 use Rattle.ribsaddle.proofs.tracker.created.Statement.{statement}
 use Rattle.ribsaddle.proofs.tracker.created.Tie as tie
 
-abbrev answered : ℕ → SentPackets → Tracking
-answered n s = record { answer = n; state = s }
+abbrev answered : ℕ → Tracker → Starting
+answered n t = record { answer = n; state = t }
 
 enum-told : tie.Need-enum-told
 enum-told c = search needs
@@ -23,11 +23,11 @@ of-tracker-requires : tie.Need-of-tracker-requires
 of-tracker-requires c κs = search needs
 
 returns : tie.Need-returns
-returns c = ap (λ (o : Outcome). createdAs (c .before .before .before .args .old) (outcome o, c .before .before .before .args .tracked .state)) (sym (c .enum-told .given .1))
+returns c = ap (λ (o : Outcome). startedAs (c .before .before .before .args .old) (outcome o, c .before .before .before .args .stepping .head)) (sym (c .enum-told .given .1))
 
 returns-2 : tie.Need-returns-2
 returns-2 c = ap (λ (n : ℕ). answered n (c .before .before .before .before .before .args .old)) (c .of-tracker .ensures)
-    ∙ ap (λ (o : Outcome). createdAs (c .before .before .before .before .before .args .old) (outcome o, c .before .before .before .before .before .args .tracked .state)) (sym (c .before .before .outcome .given .1))
+    ∙ ap (λ (o : Outcome). startedAs (c .before .before .before .before .before .args .old) (outcome o, c .before .before .before .before .before .args .stepping .head)) (sym (c .before .before .outcome .given .1))
 
 pub created-spec : {M : Type 1} → statement M
 created-spec =

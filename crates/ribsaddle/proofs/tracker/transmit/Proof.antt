@@ -1,10 +1,9 @@
 -- `ribsaddle::tracker::transmit` meets its contract. A known type goes to the tracker; another is refused, behind the soundness test.
-use mathlib.Core.Path.{_∙_, ap, sym}
-use mathlib.Core.Bool.{Bool, cond}
-use Rattle.common.specs.Answer.{Answer, refused}
-use Rattle.packet.specs.declared.header.PacketType.{PacketType}
+use mathlib.Core.Path.{_∙_, ap, refl, sym}
+use mathlib.Core.Bool.{true, false}
 use Rattle.packet.specs.Answers.{typeRead}
-use Rattle.ribsaddle.specs.Tracker.{trackingOf, transmitAs, transmitOf}
+use Rattle.ribsaddle.specs.Tracker.{headingAs}
+use Rattle.ribsaddle.specs.Laws.Tracker.{left-transmitted, left-unknown}
 use borrow.Author.Needs.{needs}
 use Rattle.ribsaddle.proofs.tracker.transmit.Statement.{statement}
 use Rattle.ribsaddle.proofs.tracker.transmit.Tie as tie
@@ -28,28 +27,23 @@ sound-requires : tie.Need-sound-requires
 sound-requires c κs = search needs
 
 returns : tie.Need-returns
-unfolding transmitOf
 returns c =
-    let a = c .before .before .before .before .before .args in
-    let e = sym (ap typeRead (c .before .before .enum-told .given .1)) ∙ c .before .before .before .before .of-number .ensures in
-    ap (λ (b : Bool). trackingOf (cond b (refused 2) (refused 19), a .state)) (sym (c .if1 .taken) ∙ c .before .sound .ensures)
-    ∙ ap (λ (t : Answer PacketType). trackingOf (transmitAs (a .state) (a .number) t (a .tag) (a .len) (a .clock))) e
+    let a = c .before .before .before .before .before .before .before .before .before .args in
+    let q = c .before .before .before .before .before .before .before .before .before .pre in
+    left-unknown (a .head) (a .samples .now) (a .times .now) (a .sizes .now) (a .marks .now) (q .0) (q .1) (a .number) (a .packet-type) (a .tag) (a .len) (a .clock) (sym (ap typeRead (c .before .before .before .before .before .before .enum-told .given .1)) ∙ c .before .before .before .before .before .before .before .before .of-number .ensures) 2 true (sym (c .if1 .taken) ∙ c .before .sound .ensures) refl
 
 returns-2 : tie.Need-returns-2
-unfolding transmitOf
 returns-2 c =
-    let a = c .before .before .before .before .before .before .args in
-    let e = sym (ap typeRead (c .before .before .before .known .given .1)) ∙ c .before .before .before .before .before .of-number .ensures in
-    c .numbered .ensures ∙ ap trackingOf (c .before .on-transmit .ensures)
-    ∙ ap (λ (t : Answer PacketType). trackingOf (transmitAs (a .state) (a .number) t (a .tag) (a .len) (a .clock))) e
+    let a = c .before .before .before .before .before .before .before .before .before .before .args in
+    let q = c .before .before .before .before .before .before .before .before .before .before .pre in
+    let e = c .before .on-transmit .ensures in
+    left-transmitted (a .head) (a .samples .now) (a .times .now) (a .sizes .now) (a .marks .now) (q .0) (a .number) (a .packet-type) (a .tag) (a .len) (a .clock) _ (sym (ap typeRead (c .before .before .before .before .before .before .before .known .given .1)) ∙ c .before .before .before .before .before .before .before .before .before .of-number .ensures) (c .numbered .result) _ _ _ (c .numbered .ensures ∙ ap headingAs (e .0)) (e .1) (e .2) (e .3)
 
 returns-3 : tie.Need-returns-3
-unfolding transmitOf
 returns-3 c =
-    let a = c .before .before .before .before .before .args in
-    let e = sym (ap typeRead (c .before .before .enum-told .given .1)) ∙ c .before .before .before .before .of-number .ensures in
-    ap (λ (b : Bool). trackingOf (cond b (refused 2) (refused 19), a .state)) (sym (c .if1 .left) ∙ c .before .sound .ensures)
-    ∙ ap (λ (t : Answer PacketType). trackingOf (transmitAs (a .state) (a .number) t (a .tag) (a .len) (a .clock))) e
+    let a = c .before .before .before .before .before .before .before .before .before .args in
+    let q = c .before .before .before .before .before .before .before .before .before .pre in
+    left-unknown (a .head) (a .samples .now) (a .times .now) (a .sizes .now) (a .marks .now) (q .0) (q .1) (a .number) (a .packet-type) (a .tag) (a .len) (a .clock) (sym (ap typeRead (c .before .before .before .before .before .before .enum-told .given .1)) ∙ c .before .before .before .before .before .before .before .before .of-number .ensures) 19 false (sym (c .if1 .left) ∙ c .before .sound .ensures) refl
 
 pub transmit-spec : {M : Type 1} → statement M
 transmit-spec =
