@@ -13,7 +13,7 @@ use report::text::print;
 use report::text::put_bytes;
 use report::text::put_next;
 use report::text::put_number;
-use sent::state::SentPackets;
+use sent::lent::Head;
 
 // How a run ended.
 pub struct Ended {
@@ -21,11 +21,11 @@ pub struct Ended {
     pub is_done: bool,
 }
 
-// Two fresh ends that share an initial number, and an empty channel.
+// Two fresh ends that share an initial number, and an empty channel. The tracker's arrays hold zeros.
 fn begun(plan: Plan) -> World {
-    let tracked = SentPackets::new(SeqNum(plan.initial), plan.settings());
+    let tracked = Head::new(SeqNum(plan.initial), plan.settings());
     let created = ReceiveBuffer::new(SeqNum(plan.initial), plan.length);
-    let sender = tracked.state;
+    let sender = tracked.head;
     let receiver = created.state;
     World {
         plan,
@@ -53,8 +53,18 @@ fn end_of(world: World) -> Ended {
 }
 
 // One step, which is printed where that is asked for.
-fn stepped(world: World, index: u64, buf: &mut [u8], memory: &mut [u8], is_shown: bool) -> World {
-    let acted = go_on(world, index, buf, memory);
+fn stepped(
+    world: World,
+    samples: &mut [u64; 2048],
+    times: &mut [u64; 512],
+    sizes: &mut [u32; 1024],
+    marks: &mut [u8; 2048],
+    index: u64,
+    buf: &mut [u8],
+    memory: &mut [u8],
+    is_shown: bool,
+) -> World {
+    let acted = go_on(world, samples, times, sizes, marks, index, buf, memory);
     let told = acted.told;
     if is_shown {
         say(told);
@@ -67,13 +77,32 @@ fn stepped(world: World, index: u64, buf: &mut [u8], memory: &mut [u8], is_shown
 const MOST_STEPS: u64 = 60000;
 
 // Steps until all is done.
-fn walk(world: World, buf: &mut [u8], memory: &mut [u8], is_shown: bool) -> Ended {
+fn walk(
+    world: World,
+    samples: &mut [u64; 2048],
+    times: &mut [u64; 512],
+    sizes: &mut [u32; 1024],
+    marks: &mut [u8; 2048],
+    buf: &mut [u8],
+    memory: &mut [u8],
+    is_shown: bool,
+) -> Ended {
     let mut here = world;
     for index in 0..MOST_STEPS {
         if is_done(here) {
             return end_of(here);
         }
-        here = stepped(here, index, buf, memory, is_shown);
+        here = stepped(
+            here,
+            samples,
+            times,
+            sizes,
+            marks,
+            index,
+            buf,
+            memory,
+            is_shown,
+        );
     }
     end_of(here)
 }
@@ -81,9 +110,22 @@ fn walk(world: World, buf: &mut [u8], memory: &mut [u8], is_shown: bool) -> Ende
 pub fn run(plan: Plan, is_shown: bool) -> Ended {
     let mut room = io::large_buffer();
     let mut memory = io::large_buffer();
+    let mut samples: [u64; 2048] = [0; 2048];
+    let mut times: [u64; 512] = [0; 512];
+    let mut sizes: [u32; 1024] = [0; 1024];
+    let mut marks: [u8; 2048] = [0; 2048];
     let length = plan.length;
     if length <= 65536 {
-        walk(begun(plan), &mut room[..length], &mut memory, is_shown)
+        walk(
+            begun(plan),
+            &mut samples,
+            &mut times,
+            &mut sizes,
+            &mut marks,
+            &mut room[..length],
+            &mut memory,
+            is_shown,
+        )
     } else {
         end_of(begun(plan))
     }

@@ -13,7 +13,7 @@ use report::text::front;
 use sent::answer::LostTold;
 use sent::answer::NumberTold;
 use sent::answer::SeqTold;
-use sent::state::SentPackets;
+use sent::lent::Head;
 use sent_replay::answer::of_outcome;
 use sent_replay::answer::of_reason;
 
@@ -37,18 +37,39 @@ fn goes_out(world: World, number: SeqNum, offset: u32, memory: &mut [u8]) -> Wor
 }
 
 // A packet is sent, or sent again, under its number at a time. Only what the tracker takes goes out.
-fn transmit(world: World, number: SeqNum, clock: u64, memory: &mut [u8]) -> Acted {
+fn transmit(
+    world: World,
+    samples: &[u64; 2048],
+    times: &mut [u64; 512],
+    sizes: &mut [u32; 1024],
+    marks: &mut [u8; 2048],
+    number: SeqNum,
+    clock: u64,
+    memory: &mut [u8],
+) -> Acted {
     let plan = world.plan;
     let sender = world.sender;
     let offset = number.offset_from(SeqNum(plan.initial)).0 as u32;
     let size = plan.size_of(offset);
     let is_again = offset <= sender.count;
-    let tracked = sender.on_transmit(number, kind_of(size), offset, (size % 65536) as u32, clock);
+    let len = (size % 65536) as u32;
+    let kind = kind_of(size);
+    let tracked = sender.on_transmit(
+        samples,
+        times,
+        sizes,
+        marks,
+        number,
+        kind,
+        offset,
+        len,
+        clock,
+    );
     let answer = tracked.answer;
-    let state = tracked.state;
+    let head = tracked.head;
     let refusal = of_outcome(answer);
     let mut here = world;
-    here.sender = state;
+    here.sender = head;
     let wire = number.0 as u64;
     if refusal != 0 {
         return by_sender(here, SenderTold::Unsent(wire, refusal));
@@ -85,7 +106,16 @@ fn ago(clock: u64, back: u64) -> u64 {
 
 // The next packet is sent, if it may, by a clock that is so far back. One that is so far past the next
 // is only offered to the tracker.
-pub fn send(world: World, far: u64, back: u64, memory: &mut [u8]) -> Acted {
+pub fn send(
+    world: World,
+    samples: &[u64; 2048],
+    times: &mut [u64; 512],
+    sizes: &mut [u32; 1024],
+    marks: &mut [u8; 2048],
+    far: u64,
+    back: u64,
+    memory: &mut [u8],
+) -> Acted {
     if far == 0 {
         if !may_send(world) {
             return nothing(world);
@@ -93,102 +123,168 @@ pub fn send(world: World, far: u64, back: u64, memory: &mut [u8]) -> Acted {
     }
     let sender = world.sender;
     let tally = world.tally;
-    match sender.next_seq_num() {
+    match sender.next_seq_num(samples, times, sizes, marks) {
         SeqTold::Seq(number) => {
             let meant = number.plus((far % 65536) as u16);
-            transmit(world, meant, ago(tally.clock, back), memory)
+            let clock = ago(tally.clock, back);
+            transmit(world, samples, times, sizes, marks, meant, clock, memory)
         }
         SeqTold::Refused(reason) => by_sender(world, SenderTold::Unsent(0, of_reason(reason))),
     }
 }
 
 // How many packets the tracker lists as lost.
-fn lost_of(sender: SentPackets) -> u64 {
-    match sender.lost_count() {
+fn lost_of(
+    sender: Head,
+    samples: &[u64; 2048],
+    times: &[u64; 512],
+    sizes: &[u32; 1024],
+    marks: &[u8; 2048],
+) -> u64 {
+    match sender.lost_count(samples, times, sizes, marks) {
         NumberTold::Number(n) => n,
         NumberTold::Refused(_) => 0,
     }
 }
 
 // The lost packet at a position, which is taken round the list, is sent again.
-pub fn send_lost(world: World, position: u64, memory: &mut [u8]) -> Acted {
+pub fn send_lost(
+    world: World,
+    samples: &[u64; 2048],
+    times: &mut [u64; 512],
+    sizes: &mut [u32; 1024],
+    marks: &mut [u8; 2048],
+    position: u64,
+    memory: &mut [u8],
+) -> Acted {
     let sender = world.sender;
     let tally = world.tally;
-    let count = lost_of(sender);
+    let count = lost_of(sender, samples, times, sizes, marks);
     if count == 0 {
         return nothing(world);
     }
-    match sender.lost_at((position % count % 65536) as u32) {
+    let at = (position % count % 65536) as u32;
+    match sender.lost_at(samples, times, sizes, marks, at) {
         LostTold::Lost(found) => {
             let number = found.seq_num;
-            transmit(world, number, tally.clock, memory)
+            transmit(
+                world,
+                samples,
+                times,
+                sizes,
+                marks,
+                number,
+                tally.clock,
+                memory,
+            )
         }
         LostTold::Refused(reason) => by_sender(world, SenderTold::Unsent(0, of_reason(reason))),
     }
 }
 
-// The packet at a place of the tracker is sent again, if it is not acknowledged.
-fn send_place(world: World, place: usize, memory: &mut [u8]) -> World {
+// The packet at a place of the tracker is sent again, if it is not acknowledged. The second of the four
+// marks of a place says that.
+fn send_place(
+    world: World,
+    samples: &[u64; 2048],
+    times: &mut [u64; 512],
+    sizes: &mut [u32; 1024],
+    marks: &mut [u8; 2048],
+    place: usize,
+    memory: &mut [u8],
+) -> World {
     let sender = world.sender;
     let tally = world.tally;
     if place >= 512 {
         return world;
     }
-    let packet = sender.packets[place];
-    if packet.acked != 0 {
+    if marks[4 * place + 1] != 0 {
         return world;
     }
     let gone = std::num::wrapping_sub_u32(sender.count, sender.live);
     let offset = std::num::wrapping_add_u16((gone % 65536) as u16, (place + 1) as u16);
     let number = SeqNum(sender.initial).plus(offset);
-    let acted = transmit(world, number, tally.clock, memory).counted();
+    let acted = transmit(
+        world,
+        samples,
+        times,
+        sizes,
+        marks,
+        number,
+        tally.clock,
+        memory,
+    ).counted();
     let after = acted.world;
     after
 }
 
 // Every packet that is not acknowledged is sent again.
-fn send_all(world: World, memory: &mut [u8]) -> World {
+fn send_all(
+    world: World,
+    samples: &[u64; 2048],
+    times: &mut [u64; 512],
+    sizes: &mut [u32; 1024],
+    marks: &mut [u8; 2048],
+    memory: &mut [u8],
+) -> World {
     let mut here = world;
     for place in 0..512 {
         if place >= here.sender.live as usize {
             return here;
         }
-        here = send_place(here, place, memory);
+        here = send_place(here, samples, times, sizes, marks, place, memory);
     }
     here
 }
 
 // A timeout event, and what follows from it.
-pub fn time_out(world: World, memory: &mut [u8]) -> Acted {
+pub fn time_out(
+    world: World,
+    samples: &[u64; 2048],
+    times: &mut [u64; 512],
+    sizes: &mut [u32; 1024],
+    marks: &mut [u8; 2048],
+    memory: &mut [u8],
+) -> Acted {
     let sender = world.sender;
     let before = world.tally;
-    let tracked = sender.on_timeout();
+    let tracked = sender.on_timeout(samples, times, sizes, marks);
     let answer = tracked.answer;
-    let state = tracked.state;
+    let head = tracked.head;
     let refusal = of_outcome(answer);
     let mut here = world;
-    here.sender = state;
+    here.sender = head;
     if refusal != 0 {
         return by_sender(here, SenderTold::Unsent(0, refusal));
     }
-    let after = send_all(here, memory);
+    let after = send_all(here, samples, times, sizes, marks, memory);
     let tally = after.tally;
     let count = std::num::wrapping_sub_u64(tally.again, before.again);
     by_sender(after, SenderTold::TimedOut(count))
 }
 
 // An ack is heard, by a clock that is so far back.
-pub fn hear(world: World, header: Header, sack: &[u8], back: u64) -> Acted {
+pub fn hear(
+    world: World,
+    samples: &mut [u64; 2048],
+    times: &mut [u64; 512],
+    sizes: &mut [u32; 1024],
+    marks: &mut [u8; 2048],
+    header: Header,
+    sack: &[u8],
+    back: u64,
+) -> Acted {
     let sender = world.sender;
     let tally = world.tally;
     let number = header.ack_num;
     let delay = header.ts_diff_micros as u64;
-    let tracked = sender.on_ack(number, sack, delay, ago(tally.clock, back));
+    let clock = ago(tally.clock, back);
+    let tracked = sender.on_ack(samples, times, sizes, marks, number, sack, delay, clock);
     let answer = tracked.answer;
-    let state = tracked.state;
+    let head = tracked.head;
     let refusal = of_outcome(answer);
     let mut here = world;
-    here.sender = state;
+    here.sender = head;
     let wire = number.0 as u64;
     if refusal != 0 {
         by_sender(here, SenderTold::Unheard(wire, refusal))

@@ -44,12 +44,23 @@ fn is_ack(kind: PacketType) -> bool {
 }
 
 // A packet is handed to the end that it is for. An ack is a State.
-fn hand_packet(world: World, packet: Packet, datagram: &[u8], back: u64, buf: &mut [u8]) -> Acted {
+fn hand_packet(
+    world: World,
+    samples: &mut [u64; 2048],
+    times: &mut [u64; 512],
+    sizes: &mut [u32; 1024],
+    marks: &mut [u8; 2048],
+    packet: Packet,
+    datagram: &[u8],
+    back: u64,
+    buf: &mut [u8],
+) -> Acted {
     let header = packet.header;
     let kind = header.packet_type;
     if is_ack(kind) {
         let sack = packet.sack;
-        hear(world, header, sack.bytes(datagram), back)
+        let bytes = sack.bytes(datagram);
+        hear(world, samples, times, sizes, marks, header, bytes, back)
     } else {
         let payload = packet.payload;
         let number = header.seq_num;
@@ -57,9 +68,28 @@ fn hand_packet(world: World, packet: Packet, datagram: &[u8], back: u64, buf: &m
     }
 }
 
-fn hand_datagram(world: World, datagram: &[u8], back: u64, buf: &mut [u8]) -> Acted {
+fn hand_datagram(
+    world: World,
+    samples: &mut [u64; 2048],
+    times: &mut [u64; 512],
+    sizes: &mut [u32; 1024],
+    marks: &mut [u8; 2048],
+    datagram: &[u8],
+    back: u64,
+    buf: &mut [u8],
+) -> Acted {
     match Packet::decode(datagram) {
-        Decoded::Accepted(packet) => hand_packet(world, packet, datagram, back, buf),
+        Decoded::Accepted(packet) => hand_packet(
+            world,
+            samples,
+            times,
+            sizes,
+            marks,
+            packet,
+            datagram,
+            back,
+            buf,
+        ),
         Decoded::Undecoded(why) => Acted {
             world,
             told: Told::ByChannel(ChannelTold::Undecoded(of_reason(why))),
@@ -99,7 +129,17 @@ fn repeated(world: World) -> World {
 }
 
 // The channel does something with a datagram.
-fn pass(world: World, way: Way, start: u64, buf: &mut [u8], memory: &[u8]) -> Acted {
+fn pass(
+    world: World,
+    samples: &mut [u64; 2048],
+    times: &mut [u64; 512],
+    sizes: &mut [u32; 1024],
+    marks: &mut [u8; 2048],
+    way: Way,
+    start: u64,
+    buf: &mut [u8],
+    memory: &[u8],
+) -> Acted {
     let channel = world.channel;
     let place = channel.pick(start);
     if place >= 64 {
@@ -107,8 +147,26 @@ fn pass(world: World, way: Way, start: u64, buf: &mut [u8], memory: &[u8]) -> Ac
     }
     let datagram = channel.part(place).bytes(memory);
     match way {
-        Way::Hand(back) => hand_datagram(without(world, place), datagram, back, buf),
-        Way::Repeat => hand_datagram(repeated(world), datagram, 0, buf),
+        Way::Hand(back) => hand_datagram(
+            without(world, place),
+            samples,
+            times,
+            sizes,
+            marks,
+            datagram,
+            back,
+            buf,
+        ),
+        Way::Repeat => hand_datagram(
+            repeated(world),
+            samples,
+            times,
+            sizes,
+            marks,
+            datagram,
+            0,
+            buf,
+        ),
         Way::Lose => Acted {
             world: without(world, place),
             told: Told::ByChannel(lost_datagram(datagram)),
@@ -121,20 +179,56 @@ fn delay_of(world: World) -> u32 {
     50000 + (tally.seed / 4096 % 250000) as u32
 }
 
-fn done(world: World, step: Step, buf: &mut [u8], memory: &mut [u8]) -> Acted {
+fn done(
+    world: World,
+    samples: &mut [u64; 2048],
+    times: &mut [u64; 512],
+    sizes: &mut [u32; 1024],
+    marks: &mut [u8; 2048],
+    step: Step,
+    buf: &mut [u8],
+    memory: &mut [u8],
+) -> Acted {
     match step {
-        Step::Send(far, back) => send(world, far, back, memory),
-        Step::Pass(way, start) => pass(world, way, start, buf, memory),
+        Step::Send(far, back) => send(world, samples, times, sizes, marks, far, back, memory),
+        Step::Pass(way, start) => pass(
+            world,
+            samples,
+            times,
+            sizes,
+            marks,
+            way,
+            start,
+            buf,
+            memory,
+        ),
         Step::Build(size) => build(world, (size % 4096) as usize, delay_of(world), memory),
         Step::Read(most) => read(world, buf, (most % 4096) as usize),
-        Step::SendLost(position) => send_lost(world, position, memory),
-        Step::TimeOut => time_out(world, memory),
+        Step::SendLost(position) => send_lost(
+            world,
+            samples,
+            times,
+            sizes,
+            marks,
+            position,
+            memory,
+        ),
+        Step::TimeOut => time_out(world, samples, times, sizes, marks, memory),
     }
 }
 
 // Does a step, and counts what it told.
-pub fn act(world: World, step: Step, buf: &mut [u8], memory: &mut [u8]) -> Acted {
-    done(world, step, buf, memory).counted()
+pub fn act(
+    world: World,
+    samples: &mut [u64; 2048],
+    times: &mut [u64; 512],
+    sizes: &mut [u32; 1024],
+    marks: &mut [u8; 2048],
+    step: Step,
+    buf: &mut [u8],
+    memory: &mut [u8],
+) -> Acted {
+    done(world, samples, times, sizes, marks, step, buf, memory).counted()
 }
 
 // How far back a clock goes: mostly not at all.
@@ -211,7 +305,16 @@ fn next_step(plan: Plan, index: u64, drawn: u64) -> Step {
 }
 
 // Time goes on, and the step of this index is done.
-pub fn go_on(world: World, index: u64, buf: &mut [u8], memory: &mut [u8]) -> Acted {
+pub fn go_on(
+    world: World,
+    samples: &mut [u64; 2048],
+    times: &mut [u64; 512],
+    sizes: &mut [u32; 1024],
+    marks: &mut [u8; 2048],
+    index: u64,
+    buf: &mut [u8],
+    memory: &mut [u8],
+) -> Acted {
     let plan = world.plan;
     let mut here = world;
     let mut tally = here.tally;
@@ -219,5 +322,6 @@ pub fn go_on(world: World, index: u64, buf: &mut [u8], memory: &mut [u8]) -> Act
     tally.seed = drawn;
     tally.clock = std::num::wrapping_add_u64(tally.clock, drawn / 65536 % 20000);
     here.tally = tally;
-    act(here, next_step(plan, index, drawn / 16), buf, memory)
+    let step = next_step(plan, index, drawn / 16);
+    act(here, samples, times, sizes, marks, step, buf, memory)
 }

@@ -4,7 +4,7 @@ use crate::channel::Fate;
 use crate::plan::Plan;
 use packet::header::Header;
 use recv::ReceiveBuffer;
-use sent::state::SentPackets;
+use sent::lent::Head;
 
 // Which byte is to be read next: byte `at` of the payload of offset `want`. `refused` has a count for
 // each answer number.
@@ -23,9 +23,10 @@ pub struct Tally {
     pub refused: [u64; 32],
 }
 
+// The arrays of the sender's tracker are lent to each call beside it.
 pub struct World {
     pub plan: Plan,
-    pub sender: SentPackets,
+    pub sender: Head,
     pub receiver: ReceiveBuffer,
     pub channel: Channel,
     pub tally: Tally,

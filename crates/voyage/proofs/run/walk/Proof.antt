@@ -1,16 +1,16 @@
 -- The two lent slices keep their lengths over the steps.
 use Prim.Native.Nat.{_-_}
-use mathlib.Core.Path.{_≡_}
+use mathlib.Core.Path.{_≡_, _∙_}
 use borrow.Author.Needs.{needs}
 use lib.ListN.{length}
 use Rattle.voyage.proofs.run.walk.Statement.{statement}
 use Rattle.voyage.proofs.run.walk.Tie as tie
 
 abbrev Inv-loop : tie.InvT-loop
-Inv-loop buf₀ memory₀ is-shown here₀ index₀ buf memory here index = (length buf ≡ length buf₀) × (length memory ≡ length memory₀)
+Inv-loop samples₀ times₀ sizes₀ marks₀ buf₀ memory₀ is-shown here₀ index₀ samples times sizes marks buf memory here index = (length buf ≡ length buf₀) × (length memory ≡ length memory₀)
 
 abbrev μ-loop : tie.MeasureT-loop
-μ-loop buf₀ memory₀ is-shown here₀ index₀ buf memory here index = 60000 - index
+μ-loop samples₀ times₀ sizes₀ marks₀ buf₀ memory₀ is-shown here₀ index₀ samples times sizes marks buf memory here index = 60000 - index
 
 loop-holds : tie.Need-loop-holds Inv-loop μ-loop
 loop-holds c = search needs
@@ -40,7 +40,10 @@ loop-less : tie.Need-loop-less Inv-loop μ-loop
 loop-less c = search needs
 
 loop-again : tie.Need-loop-again Inv-loop μ-loop
-loop-again c = search needs
+loop-again c =
+    let kept = c .before .before .before .before .stepped .kept .1 .1 .1 .1 .1 .1 in
+    let inv = c .before .before .before .before .before .before .before .before .before .before .before .before .before .before .loop .inv in
+    (kept .0 ∙ inv .0, kept .1 .0 ∙ inv .1)
 
 end-of-requires-2 : tie.Need-end-of-requires-2 Inv-loop μ-loop
 end-of-requires-2 c κs = search needs

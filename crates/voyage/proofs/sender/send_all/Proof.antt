@@ -7,10 +7,10 @@ use Rattle.voyage.proofs.sender.send_all.Statement.{statement}
 use Rattle.voyage.proofs.sender.send_all.Tie as tie
 
 abbrev Inv-loop : tie.InvT-loop
-Inv-loop memory₀ here₀ place₀ memory here place = length memory ≡ length memory₀
+Inv-loop samples times₀ sizes₀ marks₀ memory₀ here₀ place₀ times sizes marks memory here place = length memory ≡ length memory₀
 
 abbrev μ-loop : tie.MeasureT-loop
-μ-loop memory₀ here₀ place₀ memory here place = 512 - place
+μ-loop samples times₀ sizes₀ marks₀ memory₀ here₀ place₀ times sizes marks memory here place = 512 - place
 
 loop-holds : tie.Need-loop-holds Inv-loop μ-loop
 loop-holds c = search needs
