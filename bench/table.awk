@@ -1,4 +1,4 @@
-# Reads lines 'case|port ns|Rust ns' or 'case|port ns|Rust ns|operations|port instructions|Rust instructions' and prints the table. Behind each ack of the
+# A case whose nanoseconds are 0 was not timed. Reads lines 'case|port ns|Rust ns' or 'case|port ns|Rust ns|operations|port instructions|Rust instructions' and prints the table. Behind each ack of the
 # tracker, the mean of a transmit and an ack at the same length: an event.
 BEGIN {
     FS = "|"
@@ -6,7 +6,9 @@ BEGIN {
     print "|---|---|---|---|---|---|---|"
 }
 function row(name, port, rust, port_count, rust_count) {
-    if (rust_count)
+    if (!rust)
+        printf "| %s | | | | %d | %d | %.2f |\n", name, port_count, rust_count, port_count / rust_count
+    else if (rust_count)
         printf "| %s | %d | %d | %.2f | %d | %d | %.2f |\n", name, port, rust, port / rust, port_count, rust_count, port_count / rust_count
     else
         printf "| %s | %d | %d | %.2f | | | |\n", name, port, rust, port / rust

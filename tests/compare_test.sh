@@ -12,7 +12,9 @@ if [ -n "$cross" ]; then
     echo "compare_test.sh: the live comparison is left out, $cross"
     exit 0
 fi
-sh compare/run.sh 3 "${COMPARE_SEED:-20261115}"
+share=3
+[ -z "$emulated" ] || share=1               # within three minutes there too
+sh compare/run.sh "$share" "${COMPARE_SEED:-20261115}"
 for plant in decode encode tracker receiver; do
     if COMPARE_PLANT=$plant $emulated target/compare/compare 1 7 "$plant" > target/compare/planted; then
         echo "compare_test.sh: the fault planted in $plant was not found"
