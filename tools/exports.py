@@ -1,5 +1,5 @@
 #!/usr/bin/env python3
-"""Writes the proofs of the functions that crates/ribsaddle exports: the walk of each form and shape (tools/walk.py, and tools/part.py for the form Part), and for each function the lines that cite its walk.
+"""Writes the proofs of the functions that crates/ribsaddle exports: the walk of each form and shape in crates/walks (tools/walk.py, and tools/part.py for the form Part), and for each function the lines that cite its walk.
 
 A row: module, function, form, shape, callee, state, what it returns besides an answer, the types of the parameters and of the answer, and the definitions of the
 callee's contract: of its result, and of each memory lent to it, in the order of the parameters. Of the form Part is a state in parts: its definitions are of the whole. PartR: the callee asks for the lengths of the arrays.
@@ -11,6 +11,7 @@ import sys
 
 ROOT = pathlib.Path(__file__).resolve().parent.parent
 PROOFS = ROOT / "crates" / "ribsaddle" / "proofs"
+WALKS_AT = ROOT / "crates" / "walks" / "specs"
 OWN = "Rattle.ribsaddle.specs."
 HOMES = {
     OWN + "Answer": "numberOf partOr valueOr bitOf",
@@ -149,9 +150,9 @@ def proof(module, name, form, shape, callee, state, out, types, specs):
         uses.append("use lib.Ieee.{binary64}")
     uses += [f"use {home}.{{{', '.join(found)}}}" for home, found in named_in(module, given)]
     uses += [f"use {here}{callee}.Symbol as callee", f"use {here}{callee}.Met as callee-thm"]
-    uses.append(f"use Rattle.ribsaddle.proofs.Behind.{{{'float, ' if 'f64' in args else ''}uint}}")
+    uses.append(f"use Rattle.walks.specs.Behind.{{{'float, ' if 'f64' in args else ''}uint}}")
     uses.append(f"use Rattle.ribsaddle.proofs.States.{{{', '.join(states)}}}")
-    uses.append(f"use Rattle.ribsaddle.proofs.{file(module, form, shape)} as walk")
+    uses.append(f"use Rattle.walks.specs.{file(module, form, shape)} as walk")
     uses += [f"use {here}{fn}.Key as key", f"use {here}{fn}.Statement as stated", f"use {here}{fn}.Code as code"]
     dash = fn.replace("_", "-")
     return "\n".join([
@@ -187,18 +188,18 @@ def promises():
         lines += ["", f"{dash}-promise : Exported {dash}.ended (λ M 𝓤. {dash}.clauses 𝓤) ({walk}.seen {given})",
                   f"{dash}-promise = record {{ post = {walk}.Post {given}; asks-nothing = λ M 𝓤 H A mem run κs a g. refl; says = λ M 𝓤 H A mem run κs a g r e. refl; promise = {walk}.promise {given} }}"]
     uses += [f"use {home}.{{{', '.join(sorted(needed[home]))}}}" for home in HOMES if home in needed]
-    uses += ["use Rattle.ribsaddle.proofs.Behind.{float, uint}", "use Rattle.ribsaddle.proofs.Exported.{Exported}",
+    uses += ["use Rattle.walks.specs.Behind.{float, uint}", "use Rattle.ribsaddle.proofs.Exported.{Exported}",
              f"use Rattle.ribsaddle.proofs.States.{{{', '.join(sorted(states))}}}"]
-    uses += [f"use Rattle.ribsaddle.proofs.{walk} as {walk.replace('_', '-')}" for walk in sorted(WALKS)]
+    uses += [f"use Rattle.walks.specs.{walk} as {walk.replace('_', '-')}" for walk in sorted(WALKS)]
     head = "-- Every exported function, in the order of the source: nothing is asked of its caller, and no two different outcomes satisfy its promise. An outcome is the answer together with all memory lent to be written."
     return "\n".join([head] + uses + lines) + "\n"
 
 
 WALKS = {file(row[0], *row[2:4]): (row[0], *row[2:4]) for row in ROWS}
 for name, (module, form, shape) in WALKS.items():
-    by = ["part.py", "ribsaddle", IN_PARTS[module]["fields"], shape, *["R"] * (form == "PartR")] if form.startswith("Part") else ["walk.py", "ribsaddle", form, shape]
+    by = ["part.py", IN_PARTS[module]["fields"], shape, *["R"] * (form == "PartR")] if form.startswith("Part") else ["walk.py", form, shape]
     walk = subprocess.run([sys.executable, ROOT / "tools" / by[0], *by[1:]], check=True, capture_output=True, text=True).stdout
-    (PROOFS / f"{name}.antt").write_text(walk)
+    (WALKS_AT / f"{name}.antt").write_text(walk)
 for row in ROWS:
     folder = PROOFS / row[0] / ("ribsaddle_" + row[1])
     folder.mkdir(parents=True, exist_ok=True)

@@ -1,5 +1,5 @@
 #!/usr/bin/env python3
-# Writes the proof, once for all types, of the exported functions of one shape that lend arrays of the state and copy none. Use: part.py CRATE FIELDS SHAPE [R] > crates/CRATE/proofs/Part_FIELDS_SHAPE.antt
+# Writes the proof, once for all types, of the exported functions of one shape that lend arrays of the state and copy none. Use: part.py FIELDS SHAPE [R] > crates/walks/specs/Part_FIELDS_SHAPE.antt
 #     fn f(t: &mut S, ..) -> Ans { let head = t.head; let r = callee(head, &mut t.xs, &mut t.ys, ..); t.head = r.head; r.answer }      r: a struct of the answer and the head, in this order
 #   FIELDS  a letter for each field of S: v, the head, a struct of plain data, which goes by value and is stored back (one field); l, it is lent as a `&mut`; k, it is kept
 #   SHAPE   a letter for each parameter after the state, 0 where there is none: n  a built-in type by value      s  a `&[E]`      m  a `&mut [E]`      r  a `&mut E` of a built-in type
@@ -10,8 +10,8 @@ import sys
 
 from spelling import Context, lst, nth, par, prod, sub, tup, with_uses
 
-crate, fields, shape = sys.argv[1:4]
-req = sys.argv[4:] == ["R"]
+fields, shape = sys.argv[1:3]
+req = sys.argv[3:] == ["R"]
 shape = "" if shape == "0" else shape
 assert not re.search("[^nsmr]", shape) and not re.search("[^vlk]", fields) and fields.count("v") == 1 and "l" in fields
 k = len(shape)
@@ -549,4 +549,4 @@ out(f"""  walks : {Mo} (W : Given 𝓤 H A) (C : Calls 𝓤 H) (Λ : Loops 𝓤 
   proved 𝓤 H 𝓜 𝓖 𝓡 env self closed routine calls met =
       entered 𝓤 H (tripleOf 𝓤 H (𝓖 .A) signature (closing 𝓤 H (𝓖 .A) ended (clauses 𝓤 H (𝓖 .A)))) (tables 𝓤 H 𝓜 𝓡 env .C) (tables 𝓤 H 𝓜 𝓡 env .Λ) self function closed
       (meets 𝓤 H (𝓖 .A) (givenOf 𝓤 H 𝓜 𝓖) (tablesOf 𝓤 H 𝓜 (tables 𝓤 H 𝓜 𝓡 env)) (cited 𝓤 H (Callee 𝓤 H (𝓖 .A)) 𝓜 𝓡 env key routine calls met))""")
-sys.stdout.write(with_uses("\n".join(w) + "\n", USES, ["use denote.Struct.Laws as LL", "use Rattle.common.specs.Promise.{Promise, by-value}", f"use Rattle.{crate}.proofs.Behind.{{Arg, rowOf, State, stateRow, stateMember, Out}}"]))
+sys.stdout.write(with_uses("\n".join(w) + "\n", USES, ["use denote.Struct.Laws as LL", "use Rattle.common.specs.Promise.{Promise, by-value}", "use Rattle.walks.specs.Behind.{Arg, rowOf, State, stateRow, stateMember, Out}"]))

@@ -1,5 +1,5 @@
 #!/usr/bin/env python3
-# Writes the proof, once for all types, of the exported functions of one shape. Use: walk.py CRATE FORM SHAPE > crates/CRATE/proofs/FORM_SHAPE.antt
+# Writes the proof, once for all types, of the exported functions of one shape. Use: walk.py FORM SHAPE > crates/walks/specs/FORM_SHAPE.antt
 #   FORM   Mut    fn f(t: &mut S, ..) -> Ans { let s = *t; let r = callee(s, ..); *t = r.state; r.answer }     r: a struct of the answer and the state, in this order
 #          Set    fn f(t: &mut S, ..)        { let s = *t; *t = callee(s, ..); }
 #          New    fn f(t: &mut S, ..)        { *t = callee(..); }
@@ -13,7 +13,7 @@ import sys
 
 from spelling import Context, lst, nth, par, prod, sub, tup, with_uses
 
-crate, form, shape = sys.argv[1:4]
+form, shape = sys.argv[1:3]
 shape = "" if shape == "0" else shape
 req = form.endswith("R")
 form = form[:-1] if req else form
@@ -484,4 +484,4 @@ out(f"""  walks : {Mo} (W : Given 𝓤 H A) (C : Calls 𝓤 H) (Λ : Loops 𝓤 
   proved 𝓤 H 𝓜 𝓖 𝓡 env self closed routine calls met =
       entered 𝓤 H (tripleOf 𝓤 H (𝓖 .A) signature (closing 𝓤 H (𝓖 .A) ended (clauses 𝓤 H (𝓖 .A)))) (tables 𝓤 H 𝓜 𝓡 env .C) (tables 𝓤 H 𝓜 𝓡 env .Λ) self function closed
       (meets 𝓤 H (𝓖 .A) (givenOf 𝓤 H 𝓜 𝓖) (tablesOf 𝓤 H 𝓜 (tables 𝓤 H 𝓜 𝓡 env)) (cited 𝓤 H (Callee 𝓤 H (𝓖 .A)) 𝓜 𝓡 env key routine calls met))""")
-sys.stdout.write(with_uses("\n".join(w) + "\n", USES, ["use denote.Struct.Laws as LL", "use Rattle.common.specs.Promise.{Promise, by-value}", f"use Rattle.{crate}.proofs.Behind.{{Arg, rowOf, State, stateRow{', Out' if outs else ''}}}"]))
+sys.stdout.write(with_uses("\n".join(w) + "\n", USES, ["use denote.Struct.Laws as LL", "use Rattle.common.specs.Promise.{Promise, by-value}", f"use Rattle.walks.specs.Behind.{{Arg, rowOf, State, stateRow{', Out' if outs else ''}}}"]))

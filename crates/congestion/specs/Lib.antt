@@ -3,9 +3,5 @@ pub mod Settings
 pub mod Trip
 pub mod Window
 pub mod Numbers
-pub mod Delays
-pub mod Answer
-pub mod Controller
 pub mod Rust
 pub mod Laws
-pub mod Marked

@@ -1,7 +1,4 @@
-// The congestion controller: settings, window, round trip, timeout, delay samples.
-pub mod answer;
-pub mod controller;
-pub mod delays;
+// The controller's numbers: settings, window, round trip, timeout.
 pub mod numbers;
 pub mod settings;
 mod trip;

@@ -1,7 +1,7 @@
 // The window rule: how far an acknowledgement moves the maximum, in f64, and where it is bounded.
 use crate::numbers::Numbers;
 ghost use mathlib.Core.Path.{_≡_};
-ghost use mathlib.Core.Bool.{true, false};
+ghost use mathlib.Core.Bool.{false};
 ghost use Prim.Native.Nat.{min, max, _+_, _-_, _^_};
 ghost use lib.IntN.{pos};
 ghost use lib.Dec.{T};

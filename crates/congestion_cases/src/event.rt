@@ -1,10 +1,10 @@
 // One event of a session: what is done to the controller, and what it must then show.
-use congestion::answer::Answer;
-use congestion::answer::Reason;
-use congestion::controller::Controller;
-use congestion::controller::Outcome;
-use congestion::controller::Packet;
-use congestion::controller::Transmit;
+use controller::answer::Answer;
+use controller::answer::Reason;
+use controller::state::Controller;
+use controller::state::Outcome;
+use controller::state::Packet;
+use controller::state::Transmit;
 use feed::Feed;
 use feed::both;
 

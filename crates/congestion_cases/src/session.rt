@@ -1,9 +1,9 @@
 // Sessions: settings, the answer to them, a count of events, the events.
 use crate::event::compare;
 use crate::event::number_of;
-use congestion::controller::Controller;
-use congestion::controller::Outcome;
 use congestion::settings::Settings;
+use controller::state::Controller;
+use controller::state::Outcome;
 use feed::Feed;
 use feed::both;
 use report::tally::Tally;

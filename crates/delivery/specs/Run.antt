@@ -1,7 +1,7 @@
 -- A run of two ends and a channel, its premises, and what is then always so (demand 3). Definitions only; `delivered` of Laws.Theorem is the theorem.
 -- Everything here is over the definitions that the promises of `sent`, `recv` and `packet` use, so it holds of their code.
 use Prim.Native.Nat.{ℕ, _+_, _-_, _^_, _≤_, _<_}
-use mathlib.Core.Bool.{Bool, true, false, _&&_, _||_, not, cond}
+use mathlib.Core.Bool.{Bool, true, false, _&&_, not, cond}
 use mathlib.Core.List.{List, [], _∷_, _++_, map}
 use mathlib.Core.Path.{_≡_}
 use mathlib.Core.Logic.{_⊎_}
@@ -12,12 +12,11 @@ use Rattle.packet.specs.declared.seq.SeqNum.{SeqNum}
 use Rattle.packet.specs.declared.header.PacketType.{PacketType}
 use Rattle.congestion.specs.declared.settings.Settings.{Settings}
 use Rattle.sent.specs.declared.state.SentPackets.{SentPackets}
-use Rattle.sent.specs.Tracker.{Tracker, goneOf, offsetIn}
-use Rattle.sent.specs.Loss.{isUnacked}
+use Rattle.outgoing.specs.Tracker.{Tracker, goneOf, offsetIn}
+use Rattle.outgoing.specs.Loss.{isUnacked}
 use Rattle.sent.specs.State.{trackerOf, transmitAnswer, ackAnswer, timeoutAnswer, newAnswer}
-use Rattle.sent.specs.declared.state.Packet.{Packet}
+use Rattle.outgoing.specs.declared.kept.Packet.{Packet}
 use Rattle.recv.specs.declared.ReceiveBuffer.{ReceiveBuffer}
-use Rattle.recv.specs.declared.Created.{Created}
 use Rattle.recv.specs.declared.Creation.the-variants.{Made}
 use Rattle.recv.specs.declared.Count.the-variants.{Is as is-count}
 use Rattle.recv.specs.declared.Number.the-variants.{Is as is-number}

@@ -9,9 +9,9 @@ use Rattle.packet.specs.Marked as Packet
 use Rattle.packet.specs.Decode.{decodeOf}
 use Rattle.packet.specs.Layout.{fieldsOf}
 use Rattle.packet.specs.Chain.{chainFrom}
-use Rattle.congestion.specs.Marked as Congestion
+use Rattle.controller.specs.Marked as Congestion
 use Rattle.recv.specs.Marked as Recv
-use Rattle.sent.specs.Marked as Sent
+use Rattle.outgoing.specs.Marked as Sent
 
 -- Row i of a crate's table of what was found and what is written.
 abbrev row : List (List ℕ) → List (List ℕ) → String → ℕ → Case

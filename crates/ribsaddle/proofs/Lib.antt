@@ -1,20 +1,4 @@
--- The walks of the exported functions, one for each form and shape, and the states that they are over.
-pub mod Behind
+-- What is shown of every exported function, and the states that the walks of crates/walks are over.
 pub mod Exported
-pub mod Mut_nn
-pub mod Mut_nnnnnnnn
-pub mod Mut_s
-pub mod PartR_vllll_0
-pub mod PartR_vllll_nnnnn
-pub mod Part_vl_mmr
-pub mod Part_vl_mns
-pub mod Part_vllll_nsnn
 pub mod Promises
-pub mod Ref_0
-pub mod Ref_mr
-pub mod Ref_nr
-pub mod Ref_nrrr
-pub mod Ref_r
-pub mod Ref_rr
-pub mod Ref_ssmr
 pub mod States

@@ -72,29 +72,29 @@ use Rattle.ribsaddle.specs.declared.tracker.Tracker.{Tracker}
 use Rattle.ribsaddle.specs.Tracker.{Sized, ackOf as sent-ack, endOf, headingOf, lostAnswer, lostNumberOf, lostTagOf, lostTypeOf, newOf as sent-new, partsOf as sent-parts, seqOf, soundNumberOf, startOf, timeoutOf, transmitOf, wholeOf as sent-whole}
 use Rattle.ribsaddle.specs.Receiver.{countAnswer, newOf as recv-new, numberAnswer, readOf as recv-read, sackAnswer, takenCountOf, truthAnswer, writeOf}
 use Rattle.sent.specs.State.{readOf as sent-read}
-use Rattle.sent.specs.Lent.{marksOf, pairsOf, sizesOf, timesOf, wholeIn as sent-in}
-use Rattle.sent.specs.Read.{ackNumIn, hasLostIn, hasUnackedIn, inFlightIn, lostCountIn, maximumIn, nextSeqNumIn, seqNumRangeIn, timeoutIn, windowIn}
+use Rattle.sent_lent.specs.Lent.{marksOf, pairsOf, sizesOf, timesOf, wholeIn as sent-in}
+use Rattle.outgoing.specs.Read.{ackNumIn, hasLostIn, hasUnackedIn, inFlightIn, lostCountIn, maximumIn, nextSeqNumIn, seqNumRangeIn, timeoutIn, windowIn}
 use Rattle.recv.specs.State.{ackOf as recv-ack, countedOf, emptyOf, numberedOf, tableOf, toldOf, writtenBefore}
 use Rattle.recv.specs.Table.{bytesIn, freeOf, howMany}
 use Rattle.recv.specs.Calls.{ackedRoomOf, takenOutOf, takenRoomOf, writtenRoomOf}
-use Rattle.ribsaddle.proofs.Behind.{float, uint}
+use Rattle.walks.specs.Behind.{float, uint}
 use Rattle.ribsaddle.proofs.Exported.{Exported}
 use Rattle.ribsaddle.proofs.States.{counting, counts, head, header-fields, heading, marks, next-is, packet-fields, reading, receiver, receiver-lawful, receiver-name, receiver-one, receiver-to, receiving, samples, sent-next, sent-stored, sized, sizes, starting, stored, table, times, tracker, tracker-lawful, tracker-name, tracker-one, tracker-to}
-use Rattle.ribsaddle.proofs.Mut_nn as Mut-nn
-use Rattle.ribsaddle.proofs.Mut_nnnnnnnn as Mut-nnnnnnnn
-use Rattle.ribsaddle.proofs.Mut_s as Mut-s
-use Rattle.ribsaddle.proofs.PartR_vllll_0 as PartR-vllll-0
-use Rattle.ribsaddle.proofs.PartR_vllll_nnnnn as PartR-vllll-nnnnn
-use Rattle.ribsaddle.proofs.Part_vl_mmr as Part-vl-mmr
-use Rattle.ribsaddle.proofs.Part_vl_mns as Part-vl-mns
-use Rattle.ribsaddle.proofs.Part_vllll_nsnn as Part-vllll-nsnn
-use Rattle.ribsaddle.proofs.Ref_0 as Ref-0
-use Rattle.ribsaddle.proofs.Ref_mr as Ref-mr
-use Rattle.ribsaddle.proofs.Ref_nr as Ref-nr
-use Rattle.ribsaddle.proofs.Ref_nrrr as Ref-nrrr
-use Rattle.ribsaddle.proofs.Ref_r as Ref-r
-use Rattle.ribsaddle.proofs.Ref_rr as Ref-rr
-use Rattle.ribsaddle.proofs.Ref_ssmr as Ref-ssmr
+use Rattle.walks.specs.Mut_nn as Mut-nn
+use Rattle.walks.specs.Mut_nnnnnnnn as Mut-nnnnnnnn
+use Rattle.walks.specs.Mut_s as Mut-s
+use Rattle.walks.specs.PartR_vllll_0 as PartR-vllll-0
+use Rattle.walks.specs.PartR_vllll_nnnnn as PartR-vllll-nnnnn
+use Rattle.walks.specs.Part_vl_mmr as Part-vl-mmr
+use Rattle.walks.specs.Part_vl_mns as Part-vl-mns
+use Rattle.walks.specs.Part_vllll_nsnn as Part-vllll-nsnn
+use Rattle.walks.specs.Ref_0 as Ref-0
+use Rattle.walks.specs.Ref_mr as Ref-mr
+use Rattle.walks.specs.Ref_nr as Ref-nr
+use Rattle.walks.specs.Ref_nrrr as Ref-nrrr
+use Rattle.walks.specs.Ref_r as Ref-r
+use Rattle.walks.specs.Ref_rr as Ref-rr
+use Rattle.walks.specs.Ref_ssmr as Ref-ssmr
 
 decode-promise : Exported decode.ended (λ M 𝓤. decode.clauses 𝓤) (Mut-s.seen packet-fields (uint w8) (uint w32) reading decode-key.name readingOf)
 decode-promise = record { post = Mut-s.Post packet-fields (uint w8) (uint w32) reading decode-key.name readingOf; asks-nothing = λ M 𝓤 H A mem run κs a g. refl; says = λ M 𝓤 H A mem run κs a g r e. refl; promise = Mut-s.promise packet-fields (uint w8) (uint w32) reading decode-key.name readingOf }

@@ -12,7 +12,6 @@ use Rattle.recv.specs.declared.Count.{Count}
 use Rattle.recv.specs.declared.Count.the-variants.{Is as count-is, Refused as count-refused}
 use Rattle.recv.specs.declared.Creation.{Creation}
 use Rattle.recv.specs.declared.Creation.the-variants.{Made, Refused as creation-refused}
-use Rattle.recv.specs.declared.Created.{Created}
 use Rattle.recv.specs.declared.Number.{Number}
 use Rattle.recv.specs.declared.Number.the-variants.{Is as number-is, Refused as number-refused}
 use Rattle.recv.specs.declared.ReceiveBuffer.{ReceiveBuffer}

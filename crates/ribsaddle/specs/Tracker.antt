@@ -12,12 +12,12 @@ use Rattle.packet.specs.declared.seq.CircularRangeInclusive.{CircularRangeInclu
 use Rattle.packet.specs.declared.header.PacketType.{PacketType}
 use Rattle.congestion.specs.declared.settings.Settings.{Settings}
 use Rattle.sent.specs.declared.state.SentPackets.{SentPackets}
-use Rattle.sent.specs.declared.answer.LostPacket.{LostPacket}
-use Rattle.sent.specs.Lost.{lostAtOf}
-use Rattle.sent.specs.State.{newAnswer, timeoutAnswer, transmitAnswer, ackAnswer, whenStateSound, stateSoundOf, trackerOf, readOf}
+use Rattle.outgoing.specs.declared.answer.LostPacket.{LostPacket}
+use Rattle.outgoing.specs.Lost.{lostAtOf}
+use Rattle.sent.specs.State.{newAnswer, timeoutAnswer, transmitAnswer, ackAnswer, whenStateSound, stateSoundOf, trackerOf}
 use Rattle.ribsaddle.specs.Answer.{numberOf}
-use Rattle.sent.specs.Lent.{Places, wholeIn, headOf, timesOf, sizesOf, marksOf, pairsOf}
-use Rattle.sent.specs.declared.lent.Head.{Head}
+use Rattle.sent_lent.specs.Lent.{Places, wholeIn, headOf, timesOf, sizesOf, marksOf, pairsOf}
+use Rattle.sent_lent.specs.declared.head.Head.{Head}
 use Rattle.ribsaddle.specs.declared.tracker.Heading.{Heading}
 use Rattle.ribsaddle.specs.declared.tracker.Starting.{Starting}
 use Rattle.ribsaddle.specs.declared.tracker.Tracker.{Tracker}

@@ -1,7 +1,5 @@
 // The codec: a datagram read, a packet written.
 ghost use mathlib.Core.Path.{_≡_};
-ghost use lib.ListN.{length};
-ghost use Rattle.common.specs.Answer.{Answer};
 ghost use Rattle.packet.specs.Answers.{decoded, encoded};
 ghost use Rattle.ribsaddle.specs.Answer.{numberOf, valueOr};
 ghost use Rattle.ribsaddle.specs.Codec.{fieldsOf, partsOf, headerFrom, readAs, readingOf, writingOf, writingRoomOf, writingSizeOf};

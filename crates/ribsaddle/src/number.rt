@@ -1,18 +1,18 @@
 // Document 01's number of each refusal.
 ghost use mathlib.Core.Path.{_≡_};
 ghost use Rattle.packet.specs.Answers.{headerNumber, sackNumber, reasonNumber as readNumber, unwrittenNumber};
-ghost use Rattle.sent.specs.Answers.{reasonNumber as sentNumber, outcome};
+ghost use Rattle.outgoing.specs.Answers.{reasonNumber as sentNumber, outcome};
 ghost use Rattle.recv.specs.Numbers.{numberOf as recvNumber};
 ghost use Rattle.ribsaddle.specs.Answer.{numberOf};
 ghost use Rattle.ribsaddle.specs.Receiver.{writingNumber};
+use outgoing::answer::Outcome;
+use outgoing::answer::Reason as SentReason;
 use packet::decode::Reason as ReadReason;
 use packet::encode::Unwritten;
 use packet::header::HeaderReason;
 use packet::sack::SackReason;
 use recv::Refusal;
 use recv::Writing;
-use sent::answer::Outcome;
-use sent::answer::Reason as SentReason;
 
 fn of_header(reason: HeaderReason) -> u32
     ensures { λ r. ⌜ r ≡ headerNumber reason ⌝ }

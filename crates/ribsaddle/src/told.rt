@@ -1,18 +1,18 @@
 // What is read of a state: its number is answered, and its value goes to the caller's memory.
 ghost use mathlib.Core.Path.{_≡_};
-ghost use Rattle.sent.specs.Answers.{numberTold, seqTold, rangeTold, truthTold, lostTold};
+ghost use Rattle.outgoing.specs.Answers.{numberTold, seqTold, rangeTold, truthTold, lostTold};
 ghost use Rattle.ribsaddle.specs.Answer.{numberOf, partOr, valueOr, bitOf};
 ghost use Rattle.ribsaddle.specs.Tracker.{seqOf, startOf, endOf, lostNumberOf, lostTypeOf, lostTagOf};
 ghost use Rattle.ribsaddle.specs.Receiver.{countAnswer, truthAnswer, numberAnswer};
 use crate::number;
+use outgoing::answer::LostTold;
+use outgoing::answer::NumberTold;
+use outgoing::answer::RangeTold;
+use outgoing::answer::SeqTold;
+use outgoing::answer::TruthTold;
 use recv::Count;
 use recv::Number;
 use recv::Truth;
-use sent::answer::LostTold;
-use sent::answer::NumberTold;
-use sent::answer::RangeTold;
-use sent::answer::SeqTold;
-use sent::answer::TruthTold;
 
 fn bit(truth: bool) -> u64
     ensures { λ r. ⌜ r ≡ bitOf truth ⌝ }

@@ -1,20 +1,20 @@
 // The tracker of sent packets behind a pointer, which a call works on where it lies.
 ghost use mathlib.Core.Path.{_≡_};
 ghost use mathlib.Core.Bool.{cond};
-ghost use Rattle.sent.specs.Lent.{wholeIn, stepped, timesOf, sizesOf, marksOf, pairsOf};
+ghost use Rattle.sent_lent.specs.Lent.{wholeIn, stepped, timesOf, sizesOf, marksOf, pairsOf};
 ghost use Rattle.sent.specs.State.{readOf};
-ghost use Rattle.sent.specs.Read.{timeoutIn, windowIn, inFlightIn, maximumIn, ackNumIn, nextSeqNumIn, seqNumRangeIn, hasUnackedIn, lostCountIn, hasLostIn};
+ghost use Rattle.outgoing.specs.Read.{timeoutIn, windowIn, inFlightIn, maximumIn, ackNumIn, nextSeqNumIn, seqNumRangeIn, hasUnackedIn, lostCountIn, hasLostIn};
 ghost use Rattle.ribsaddle.specs.Answer.{numberOf, partOr, valueOr, bitOf};
 ghost use Rattle.ribsaddle.specs.Tracker.{Sized, wholeOf, partsOf, seqOf, startOf, endOf, lostNumberOf, lostTypeOf, lostTagOf, headingOf, headingAs, startedAs, newOf, transmitOf, ackOf, timeoutOf, soundNumberOf, lostAnswer};
 use crate::number;
 use crate::told;
 use congestion::settings::Settings;
+use outgoing::answer::Outcome;
 use packet::header::PacketType;
 use packet::header::TypeRead;
 use packet::seq::SeqNum;
-use sent::answer::Outcome;
-use sent::lent::Head;
-use sent::lent::Stepped;
+use sent_lent::head::Head;
+use sent_lent::head::Stepped;
 
 // A tracker with each array by itself, so that it can be lent. Of the packet at place i, `times` has
 // the time at i; `sizes` the tag at 2i and the length at 2i + 1; `marks` the type's number at 4i, and

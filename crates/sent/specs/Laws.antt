@@ -1,22 +1,13 @@
 -- Laws about the definitions beside this file, a file for each topic.
-pub mod Checks
 pub mod OneToOne
 pub mod Kept
 pub mod Sound
 pub mod Transmit
-pub mod Hear
-pub mod Sample
-pub mod Move
 pub mod Loss
 pub mod Acknowledge
 pub mod AckState
-pub mod Lost
 pub mod LostState
 pub mod Packets
 pub mod Keeps
 pub mod Reached
 pub mod History
-pub mod LentPackets
-pub mod LentState
-pub mod LentSamples
-pub mod LentHead

@@ -1,13 +1,4 @@
--- The port's reading of document 01 on sent packets.
-pub mod Tracker
-pub mod Loss
-pub mod Transmit
-pub mod Ack
-pub mod Hear
-pub mod Lent
-pub mod Lost
-pub mod Read
+-- The tracker as one value: the state, its soundness test, and what each function answers of it.
 pub mod Answers
 pub mod State
-pub mod Marked
 pub mod Laws

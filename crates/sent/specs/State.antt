@@ -1,22 +1,21 @@
 -- The tracker in the state, the soundness test (docs/STATE.md), and what each public function answers. Definitions only.
-use Prim.Native.Nat.{ℕ, _+_}
-use mathlib.Core.Bool.{Bool, true, _&&_, cond}
-use mathlib.Core.List.{List, [], _∷_, _++_}
-use lib.Dec.{leb, eqb}
+use Prim.Native.Nat.{ℕ}
+use mathlib.Core.Bool.{Bool, _&&_, cond}
+use mathlib.Core.List.{List, _++_}
+use lib.Dec.{leb}
 use lib.ListN.{length, take, drop, replicate}
 use Rattle.common.specs.Answer.{Answer, done, refused}
 use Rattle.packet.specs.declared.seq.SeqNum.{SeqNum}
 use Rattle.packet.specs.declared.header.PacketType.{PacketType}
 use Rattle.congestion.specs.declared.settings.Settings.{Settings}
 use Rattle.congestion.specs.Settings.{inRangeOf}
-use Rattle.congestion.specs.Numbers.{soundOf, newOf, timedOutOf}
-use Rattle.congestion.specs.Delays.{delaysSoundOf, noDelays}
-use Rattle.sent.specs.declared.state.Packet.{Packet}
+use Rattle.congestion.specs.Numbers.{newOf}
+use Rattle.controller.specs.Delays.{noDelays}
 use Rattle.sent.specs.declared.state.SentPackets.{SentPackets}
-use Rattle.sent.specs.Loss.{isUnacked, ackedCountOf, isLostOf}
-use Rattle.sent.specs.Tracker.{Tracker, places, mostSent, offsetIn, clockedOf, noPacket}
-use Rattle.sent.specs.Transmit.{transmitOf}
-use Rattle.sent.specs.Ack.{markedOf, releasedOf, ackOf}
+use Rattle.outgoing.specs.Sound.{trackerSoundOf, timeoutOf}
+use Rattle.outgoing.specs.Tracker.{Tracker, places, offsetIn, clockedOf, noPacket}
+use Rattle.outgoing.specs.Transmit.{transmitOf}
+use Rattle.outgoing.specs.Ack.{markedOf, releasedOf, ackOf}
 
 -- ---- in the state
 
@@ -45,43 +44,6 @@ writtenOf s t =
 
 -- ---- the soundness test
 
--- In flight is the sum of the first lengths of the unacknowledged packets.
-abbrev pub flyingOf : Packet → ℕ
-flyingOf p = cond (isUnacked p) (p .len) 0
-
-unfoldable pub inFlightOf : List Packet → ℕ
-inFlightOf [] = 0
-inFlightOf (p ∷ l) = inFlightOf l + flyingOf p
-
--- A kept packet: a type up to 4, marks that are 0 or 1, sent no later than the last accepted now, and marked as lost exactly when it is.
-abbrev pub packetSoundOf : ℕ → Packet → ℕ → Bool
-packetSoundOf last p later =
-    leb (p .kind) 4
-    && leb (p .acked) 1
-    && leb (p .resent) 1
-    && leb (p .«sent_at») last
-    && eqb (p .lost) (cond (isLostOf p later) 1 0)
-
-unfoldable pub packetsSoundOf : ℕ → List Packet → Bool
-packetsSoundOf last [] = true
-packetsSoundOf last (p ∷ l) = packetsSoundOf last l && packetSoundOf last p (ackedCountOf l)
-
--- Places run from the first unacknowledged packet.
-abbrev pub startsUnacked : List Packet → Bool
-startsUnacked [] = true
-startsUnacked (p ∷ l) = isUnacked p
-
--- The counts are in range, numbers and samples sound, and the kept packets and what is in flight agree.
-unfoldable pub trackerSoundOf : Tracker → Bool
-trackerSoundOf t =
-    leb (length (t .packets)) (t .sent)
-    && leb (t .sent) mostSent
-    && soundOf (t .numbers)
-    && delaysSoundOf (t .numbers .last) (t .delays)
-    && startsUnacked (t .packets)
-    && packetsSoundOf (t .numbers .last) (t .packets)
-    && eqb (inFlightOf (t .packets)) (t .numbers .«in_flight»)
-
 unfoldable pub stateSoundOf : SentPackets → Bool
 stateSoundOf s = leb (s .live) places && trackerSoundOf (trackerOf s)
 
@@ -109,17 +71,6 @@ answeredAs s next (refused n) = (refused n, s)
 unfoldable pub ackAnswer : SentPackets → SeqNum → List ℕ → ℕ → ℕ → Answer (Unit {0}) × SentPackets
 ackAnswer s number mask delay clock =
     answeredAs s (ackStateOf s (offsetIn (trackerOf s) number) mask delay clock) (whenStateSound s (ackOf (trackerOf s) number mask delay clock))
-
--- A timeout event sets the maximum to the minimum and doubles the timeout. It does not set the last accepted now.
-abbrev pub timeoutOf : Tracker → Tracker
-timeoutOf t =
-    record {
-      initial = t .initial;
-      sent = t .sent;
-      packets = t .packets;
-      numbers = timedOutOf (t .numbers);
-      delays = t .delays;
-    }
 
 unfoldable pub timeoutAnswer : SentPackets → Answer (Unit {0}) × SentPackets
 timeoutAnswer s = answeredOf s (whenStateSound s (done (timeoutOf (trackerOf s))))

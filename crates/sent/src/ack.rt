@@ -1,178 +1,25 @@
 // An ack: which packets it speaks of, what each newly acknowledged one moves, and loss.
-use crate::answer::Outcome;
-use crate::answer::Reason;
 use crate::answer::Tracked;
-use crate::state::Packet;
 use crate::state::SentPackets;
 use congestion::numbers::Numbers;
-use congestion::settings::Settings;
+use outgoing::ack::Ack;
+use outgoing::ack::Heard;
+use outgoing::ack::Run;
+use outgoing::ack::ack_check;
+use outgoing::answer::Outcome;
+use outgoing::answer::Reason;
+use outgoing::kept::Packet;
 use packet::sack;
-use packet::sack::Checked;
 use packet::seq::SeqNum;
 ghost use mathlib.Core.Path.{_≡_};
 ghost use mathlib.Core.Bool.{true};
 ghost use mathlib.Core.List.{_++_};
-ghost use Prim.Native.Nat.{_≤_, _<_, _-_, _+_};
+ghost use Prim.Native.Nat.{_≤_, _-_, _+_};
 ghost use lib.ListN.{length, take, drop};
-ghost use Rattle.sent.specs.Answers.{outcome, told};
-ghost use Rattle.sent.specs.Loss.{isNewlyLostOf, withLost};
-ghost use Rattle.sent.specs.Ack.{ackCheck, heardOf, withAcked, creditedBy, fromUnacked};
-ghost use Rattle.sent.specs.Hear.{keepsOf, heardAt, stepOf, runOf, unheardOf, allHeardOf, lossHeardOf};
+ghost use Rattle.sent.specs.Answers.{told};
+ghost use Rattle.outgoing.specs.Ack.{heardOf, fromUnacked};
+ghost use Rattle.outgoing.specs.Hear.{heardAt, runOf, unheardOf, allHeardOf, lossHeardOf};
 ghost use Rattle.sent.specs.State.{stateSoundOf, ackStateOf, ackAnswer};
-
-// The checks of an ack, in their order: 11, 5, 6, 8, 12.
-pub(crate) fn ack_check(
-    last: u64,
-    count: u32,
-    offset: u32,
-    bytes: usize,
-    delay: u64,
-    clock: u64,
-) -> Outcome
-    ensures { λ r. ⌜ outcome r ≡ ackCheck last count offset bytes delay clock ⌝ }
-{
-    if Settings::LATEST < clock {
-        return Outcome::Refused(Reason::BadTime);
-    }
-    if clock < last {
-        return Outcome::Refused(Reason::BadTime);
-    }
-    if Settings::LATEST < delay {
-        return Outcome::Refused(Reason::BadTime);
-    }
-    let checked = sack::check(bytes);
-    if let Checked::Bad(reason) = checked {
-        return Outcome::Refused(Reason::BadSack(reason));
-    }
-    if offset == 0 {
-        return Outcome::Refused(Reason::NotSent);
-    }
-    if count < offset {
-        return Outcome::Refused(Reason::NotSent);
-    }
-    Outcome::Done
-}
-
-impl Packet {
-    // Acknowledged, and so no longer lost.
-    pub(crate) fn acked_now(self) -> Packet
-        ensures { λ r. ⌜ r ≡ withAcked self ⌝ }
-    {
-        let mut next = self;
-        next.acked = 1;
-        next.lost = 0;
-        next
-    }
-
-    // Is it lost and was not before, `later` of those behind it being acknowledged?
-    pub(crate) fn is_newly_lost(self, later: u32) -> bool
-        ensures { λ r. ⌜ r ≡ isNewlyLostOf self later ⌝ }
-    {
-        self.is_lost(later) & (self.lost == 0)
-    }
-
-    pub(crate) fn lost_now(self) -> Packet
-        ensures { λ r. ⌜ r ≡ withLost self 1 ⌝ }
-    {
-        let mut next = self;
-        next.lost = 1;
-        next
-    }
-}
-
-// What an ack brings: the offset of its number, the delay with the base that goes with it, and the
-// clock; beside how many packets were sent and how many of them are no longer kept.
-pub(crate) struct Ack {
-    pub(crate) offset: u32,
-    pub(crate) gone: u32,
-    pub(crate) count: u32,
-    pub(crate) base: u64,
-    pub(crate) delay: u64,
-    pub(crate) clock: u64,
-}
-
-// What an ack works on, and whether a packet was newly acknowledged (1) or none (0).
-struct Heard {
-    packets: [Packet; 512],
-    numbers: Numbers,
-    news: u32,
-}
-
-impl Ack {
-    // Is the packet with this offset kept?
-    pub(crate) fn keeps(self, offset: u32) -> bool
-        ensures { λ r. ⌜ r ≡ keepsOf self offset ⌝ }
-    {
-        (self.gone < offset) & (offset <= self.count)
-    }
-
-    // From its transmit to the ack.
-    fn round_trip(self, packet: Packet) -> u64
-        ensures { λ r. ⌜ r ≡ self .clock - packet .«sent_at» ⌝ }
-    {
-        if self.clock <= packet.sent_at {
-            0
-        } else {
-            self.clock - packet.sent_at
-        }
-    }
-
-    // What a newly acknowledged packet makes of the numbers.
-    pub(crate) fn credited(self, packet: Packet, numbers: Numbers) -> Numbers
-        ensures { λ r. ⌜ r ≡ creditedBy (self .base) (self .delay) (self .clock) packet numbers ⌝ }
-    {
-        let trip = self.round_trip(packet);
-        numbers.acked(self.base, self.delay, packet.len, packet.resent == 0, trip)
-    }
-
-    // The offset that step `j` speaks of, or 0 where it speaks of none: the number itself, each SACK
-    // bit upward, then every earlier one that is kept.
-    pub(crate) fn heard_at(self, sack: &[u8], bits: usize, j: usize) -> u32
-        requires { ⌜ (bits ≤ 2016) × (j ≤ 65536) × (self .offset ≤ 60000) × (self .gone ≤ 60000) ⌝ }
-        ensures { λ r. ⌜ r ≡ heardAt self (now (sack .entry)) bits j ⌝ }
-    {
-        if j == 0 {
-            return self.offset;
-        }
-        if bits < j {
-            return self.gone + ((j - bits) as u32);
-        }
-        if sack::is_set(sack, j - 1) {
-            return self.offset + 1 + (j as u32);
-        }
-        0
-    }
-
-    // How many earlier ones are kept.
-    pub(crate) fn earlier_count(self) -> usize
-        requires { ⌜ 1 ≤ self .offset ⌝ }
-        ensures { λ r. ⌜ r ≡ self .offset - 1 - self .gone ⌝ }
-    {
-        if self.offset - 1 <= self.gone {
-            return 0;
-        }
-        (self.offset - 1 - self.gone) as usize
-    }
-}
-
-// A run of steps: `count` of them, from `from` on.
-pub(crate) struct Run {
-    pub(crate) from: usize,
-    pub(crate) count: usize,
-}
-
-impl Run {
-    // Step `j` of the steps of this run and then those of another.
-    pub(crate) fn step(self, then: Run, j: usize) -> usize
-        requires { ⌜ (j < self .count + then .count) × (self .from + self .count ≤ 65536) × (then .from + then .count ≤ 65536) ⌝ }
-        ensures { λ r. ⌜ (r ≡ stepOf self then j) × (r ≤ 65536) ⌝ }
-    {
-        if j < self.count {
-            return self.from + j;
-        }
-        then.from + (j - self.count)
-    }
-}
 
 // Every packet that the steps of one run, then those of another, speak of. Acknowledged again:
 // nothing.
@@ -181,11 +28,11 @@ fn hear_runs(
     numbers: Numbers,
     ack: Ack,
     sack: &[u8],
-    bits: usize,
+    bits: u32,
     run: Run,
     then: Run,
 ) -> Heard
-    requires { ⌜ (ack .gone ≤ ack .count) × (ack .count ≤ ack .gone + 512) × (ack .count ≤ 60000) × (ack .offset ≤ ack .count) × (bits ≤ 2016) × (run .from + run .count ≤ 65536) × (then .from + then .count ≤ 65536) ⌝ }
+    requires { ⌜ (ack .count ≤ ack .gone + 512) × (run .count + then .count ≤ 65536) ⌝ }
     ensures { λ r. ⌜ r ≡ allHeardOf ack (unheardOf packets numbers) (runOf (heardAt ack (now (sack .entry)) bits) run ++ runOf (heardAt ack (now (sack .entry)) bits) then) ⌝ }
 {
     let steps = run.count + then.count;
@@ -194,15 +41,14 @@ fn hear_runs(
         numbers,
         news: 0,
     };
-    let mut j: usize = 0;
+    let mut j: u32 = 0;
     while j < steps {
-        let step = run.step(then, j);
-        let offset = ack.heard_at(sack, bits, step);
+        let offset = ack.heard(sack, bits, run, then, j);
         j += 1;
         if !ack.keeps(offset) {
             continue;
         }
-        let place = (offset - ack.gone - 1) as usize;
+        let place = (offset - (ack.gone as u64) - 1) as usize;
         let p = heard.packets[place];
         if !p.unacked() {
             continue;
@@ -220,7 +66,7 @@ fn hear(packets: [Packet; 512], numbers: Numbers, ack: Ack, sack: &[u8]) -> Hear
     requires { ⌜ (ack .gone ≤ ack .count) × (ack .count ≤ ack .gone + 512) × (ack .count ≤ 60000) × (1 ≤ ack .offset) × (ack .offset ≤ ack .count) × (length (now sack) ≤ 252) ⌝ }
     ensures { λ r. ⌜ r ≡ allHeardOf ack (unheardOf packets numbers) (heardOf (ack .count) (ack .offset) (now (sack .entry))) ⌝ }
 {
-    let bits = sack::bit_count(sack);
+    let bits = sack::bit_count(sack) as u32;
     let named = Run {
         from: 0,
         count: 1 + bits,

@@ -1,64 +1,9 @@
-// What the tracker's functions answer. Each refusal holds its reason.
+// What the calls that leave another state answer.
 use crate::state::SentPackets;
-use packet::header::PacketType;
-use packet::sack::SackReason;
-use packet::seq::CircularRangeInclusive;
-use packet::seq::SeqNum;
-
-// Why a call was refused: a SACK of a wrong length (5, 6, 8), a setting out of range (10), a time or
-// delay above 2^50 or a clock before the last accepted one (11), a number that was not sent or a
-// position at or past the count (12), a packet longer than the free window (13), no place left (14),
-// 60,000 packets sent already (15), a state that is not sound (19).
-pub enum Reason {
-    BadSack(SackReason),
-    BadSetting,
-    BadTime,
-    NotSent,
-    NoWindow,
-    NoPlace,
-    TooMany,
-    NotSound,
-}
-
-pub enum Outcome {
-    Done,
-    Refused(Reason),
-}
+use outgoing::answer::Outcome;
 
 // The answer beside the state that the next call takes. A refusal hands the state back as it came.
 pub struct Tracked {
     pub answer: Outcome,
     pub state: SentPackets,
-}
-
-pub enum NumberTold {
-    Number(u64),
-    Refused(Reason),
-}
-
-pub enum SeqTold {
-    Seq(SeqNum),
-    Refused(Reason),
-}
-
-pub enum RangeTold {
-    Range(CircularRangeInclusive),
-    Refused(Reason),
-}
-
-pub enum TruthTold {
-    Truth(bool),
-    Refused(Reason),
-}
-
-// A lost packet, as it is to be sent again.
-pub struct LostPacket {
-    pub seq_num: SeqNum,
-    pub packet_type: PacketType,
-    pub tag: u32,
-}
-
-pub enum LostTold {
-    Lost(LostPacket),
-    Refused(Reason),
 }

@@ -1,44 +1,22 @@
 // The lost list, in ascending order of the 16-bit number: packets whose number is past the wrap come
 // first.
-use crate::answer::LostPacket;
-use crate::answer::LostTold;
-use crate::answer::NumberTold;
-use crate::answer::Reason;
-use crate::answer::TruthTold;
-use crate::state::Packet;
 use crate::state::SentPackets;
-use packet::header::PacketType;
+use outgoing::answer::LostPacket;
+use outgoing::answer::LostTold;
+use outgoing::answer::NumberTold;
+use outgoing::answer::Reason;
+use outgoing::answer::TruthTold;
+use outgoing::kept::Packet;
+use outgoing::lost::type_of;
+use outgoing::lost::wrap_place;
 use packet::seq::SeqNum;
 ghost use mathlib.Core.Path.{_≡_};
 ghost use Prim.Native.Nat.{_≤_, _<_, _-_, _+_};
 ghost use lib.Seq.{slice};
-ghost use Rattle.packet.specs.Layout.{typeOf};
-ghost use Rattle.sent.specs.Answers.{numberTold, truthTold, lostTold};
-ghost use Rattle.sent.specs.Lost.{lostOne, lostCountOf, nthLost, wrapPlace, lostPlaceOf, lostAtOf};
-ghost use Rattle.sent.specs.Read.{lostCountIn, hasLostIn};
+ghost use Rattle.outgoing.specs.Answers.{numberTold, truthTold, lostTold};
+ghost use Rattle.outgoing.specs.Lost.{lostCountOf, nthLost, lostPlaceOf, lostAtOf};
+ghost use Rattle.outgoing.specs.Read.{lostCountIn, hasLostIn};
 ghost use Rattle.sent.specs.State.{readOf, whenStateSound, trackerOf};
-
-impl Packet {
-    // What it adds to the count of lost packets.
-    pub(crate) fn lost_one(self) -> u32
-        ensures { λ r. ⌜ r ≡ lostOne self ⌝ }
-    {
-        if self.lost == 0 { 0 } else { 1 }
-    }
-}
-
-// The type of a number up to 4.
-pub(crate) fn type_of(kind: u8) -> PacketType
-    ensures { λ r. ⌜ r ≡ typeOf kind ⌝ }
-{
-    match kind {
-        0 => PacketType::Data,
-        1 => PacketType::Fin,
-        2 => PacketType::State,
-        3 => PacketType::Reset,
-        _ => PacketType::Syn,
-    }
-}
 
 // How many packets at the places from `from` up to `to` are lost.
 fn lost_between(packets: [Packet; 512], from: usize, to: usize) -> u32
@@ -75,21 +53,6 @@ fn lost_place(packets: [Packet; 512], from: usize, to: usize, position: u32) -> 
         i += 1;
     }
     i
-}
-
-// The first place whose number is past the wrap, or `live` where none is.
-pub(crate) fn wrap_place(initial: u16, gone: u32, live: u32) -> usize
-    requires { ⌜ (gone ≤ 60000) × (live ≤ 512) ⌝ }
-    ensures { λ r. ⌜ r ≡ wrapPlace initial gone live ⌝ }
-{
-    let first = (initial as u32) + gone + 1;
-    if 65536 <= first {
-        return 0;
-    }
-    if live <= 65536 - first {
-        return live as usize;
-    }
-    (65536 - first) as usize
 }
 
 // The place of the lost packet at a position, `wrapped` of the lost ones being past the wrap.
@@ -137,7 +100,7 @@ impl SentPackets {
         let packets = self.packets;
         let live = self.live as usize;
         let gone = self.count - self.live;
-        let wrap = wrap_place(self.initial, gone, self.live);
+        let wrap = wrap_place(self.initial, gone, self.live) as usize;
         let wrapped = lost_between(packets, wrap, live);
         if wrapped + lost_between(packets, 0, wrap) <= position {
             return LostTold::Refused(Reason::NotSent);

@@ -1,16 +1,16 @@
 // What can be read of a tracker. A state that is not sound gives 19.
-use crate::answer::NumberTold;
-use crate::answer::RangeTold;
-use crate::answer::Reason;
-use crate::answer::SeqTold;
-use crate::answer::TruthTold;
 use crate::state::SentPackets;
+use outgoing::answer::NumberTold;
+use outgoing::answer::RangeTold;
+use outgoing::answer::Reason;
+use outgoing::answer::SeqTold;
+use outgoing::answer::TruthTold;
 use packet::seq::CircularRangeInclusive;
 use packet::seq::SeqNum;
 ghost use mathlib.Core.Path.{_≡_};
-ghost use Rattle.sent.specs.Answers.{numberTold, seqTold, rangeTold, truthTold};
+ghost use Rattle.outgoing.specs.Answers.{numberTold, seqTold, rangeTold, truthTold};
 ghost use Rattle.sent.specs.State.{readOf};
-ghost use Rattle.sent.specs.Read.{timeoutIn, windowIn, inFlightIn, maximumIn, ackNumIn, nextSeqNumIn, seqNumRangeIn, hasUnackedIn};
+ghost use Rattle.outgoing.specs.Read.{timeoutIn, windowIn, inFlightIn, maximumIn, ackNumIn, nextSeqNumIn, seqNumRangeIn, hasUnackedIn};
 
 impl SentPackets {
     // The timeout. Refused with 19.

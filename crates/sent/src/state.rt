@@ -1,31 +1,19 @@
 // The tracker's state, a plain value that may be forged, and the soundness test that every call runs
 // first.
-use crate::answer::Outcome;
-use crate::answer::Reason;
 use crate::answer::Tracked;
-use congestion::delays::Delays;
 use congestion::numbers::Numbers;
 use congestion::settings::Settings;
+use controller::delays::Delays;
+use outgoing::answer::Outcome;
+use outgoing::answer::Reason;
+use outgoing::kept::Packet;
 use packet::seq::SeqNum;
 ghost use mathlib.Core.Path.{_≡_};
-ghost use mathlib.Core.Bool.{cond};
 ghost use Prim.Native.Nat.{_≤_};
 ghost use lib.ListN.{take};
-ghost use Rattle.sent.specs.Loss.{isUnacked, isLostOf, ackedOne};
 ghost use Rattle.sent.specs.Answers.{told};
-ghost use Rattle.sent.specs.State.{newAnswer, timeoutAnswer, stateSoundOf, packetSoundOf, packetsSoundOf, inFlightOf, flyingOf};
-
-// A packet that was sent. `kind` is the type's number; `acked`, `lost` and `resent` are 0 or 1.
-#[repr(C)]
-pub struct Packet {
-    pub sent_at: u64,
-    pub tag: u32,
-    pub len: u32,
-    pub kind: u8,
-    pub acked: u8,
-    pub lost: u8,
-    pub resent: u8,
-}
+ghost use Rattle.outgoing.specs.Sound.{packetsSoundOf, inFlightOf};
+ghost use Rattle.sent.specs.State.{newAnswer, timeoutAnswer, stateSoundOf};
 
 // `count` packets were sent, with offsets 1 to `count` from `initial`. The last `live` of them, from
 // the first unacknowledged one on, stand at the front of `packets` in order; what stands past them is
@@ -40,59 +28,10 @@ pub struct SentPackets {
     pub packets: [Packet; 512],
 }
 
-impl Packet {
-    // Is it not acknowledged?
-    pub(crate) fn unacked(self) -> bool
-        ensures { λ r. ⌜ r ≡ isUnacked self ⌝ }
-    {
-        self.acked == 0
-    }
-
-    // What it adds to the number of acknowledged packets.
-    pub(crate) fn acked_one(self) -> u32
-        ensures { λ r. ⌜ r ≡ ackedOne self ⌝ }
-    {
-        if self.acked == 0 { 0 } else { 1 }
-    }
-
-    // What it adds to the bytes in flight.
-    pub(crate) fn flying(self) -> u32
-        ensures { λ r. ⌜ r ≡ flyingOf self ⌝ }
-    {
-        if self.acked == 0 { self.len } else { 0 }
-    }
-
-    // Is it lost, `later` of those behind it being acknowledged?
-    pub(crate) fn is_lost(self, later: u32) -> bool
-        ensures { λ r. ⌜ r ≡ isLostOf self later ⌝ }
-    {
-        (self.acked == 0) & (3 <= later)
-    }
-
-    // The mark that goes with this.
-    pub(crate) fn lost_mark(self, later: u32) -> u8
-        ensures { λ r. ⌜ r ≡ cond (isLostOf self later) 1 0 ⌝ }
-    {
-        if self.is_lost(later) { 1 } else { 0 }
-    }
-
-    // Does it pass the soundness test, `later` of those behind it being acknowledged?
-    pub(crate) fn sound(self, later: u32, last: u64) -> bool
-        ensures { λ r. ⌜ r ≡ packetSoundOf last self later ⌝ }
-    {
-        let mark = self.lost_mark(later);
-        (self.kind <= 4)
-            & (self.acked <= 1)
-            & (self.resent <= 1)
-            & (self.sent_at <= last)
-            & (self.lost == mark)
-    }
-}
-
 // What a walk over the kept packets finds.
-pub(crate) struct Walk {
-    pub(crate) fine: bool,
-    pub(crate) in_flight: u64,
+struct Walk {
+    fine: bool,
+    in_flight: u64,
 }
 
 // Do the kept packets pass the soundness test, and how many bytes are in flight? From the back, so
@@ -117,9 +56,9 @@ fn walked(packets: [Packet; 512], live: u32, last: u64) -> Walk
 
 impl SentPackets {
     // How many packets may be kept, and how many may be sent.
-    pub const PLACES: u32 = 512;
+    pub const PLACES: u32 = Packet::PLACES;
 
-    pub const MOST_SENT: u32 = 60000;
+    pub const MOST_SENT: u32 = Packet::MOST_SENT;
 
     // Does it pass the soundness test?
     pub fn sound(self) -> bool

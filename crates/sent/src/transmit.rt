@@ -1,70 +1,20 @@
 // A transmit: the first of a packet, or a retransmission.
-use crate::answer::Outcome;
-use crate::answer::Reason;
 use crate::answer::Tracked;
-use crate::state::Packet;
 use crate::state::SentPackets;
-use congestion::numbers::Numbers;
-use congestion::settings::Settings;
+use outgoing::answer::Outcome;
+use outgoing::answer::Reason;
+use outgoing::kept::Packet;
+use outgoing::transmit::transmit_check;
 use packet::header::PacketType;
 use packet::seq::SeqNum;
 ghost use mathlib.Core.Path.{_≡_};
 ghost use mathlib.Core.Bool.{true};
 ghost use Prim.Native.Nat.{_≤_, _<_, _-_, _+_};
-ghost use Rattle.sent.specs.Answers.{outcome, told};
-ghost use Rattle.sent.specs.Tracker.{clockedOf};
-ghost use Rattle.sent.specs.Transmit.{transmitCheck, resentOf, recordedOf, withResent};
+ghost use Rattle.outgoing.specs.Answers.{outcome};
+ghost use Rattle.sent.specs.Answers.{told};
+ghost use Rattle.outgoing.specs.Tracker.{clockedOf};
+ghost use Rattle.outgoing.specs.Transmit.{transmitCheck, resentOf, recordedOf};
 ghost use Rattle.sent.specs.State.{stateSoundOf, whenStateSound, trackerOf, writtenOf, transmitAnswer};
-
-// The checks of a transmit, in their order: 11, 12, and of a first one 15, 13, 14.
-pub(crate) fn transmit_check(
-    numbers: Numbers,
-    count: u32,
-    live: u32,
-    offset: u32,
-    len: u32,
-    clock: u64,
-) -> Outcome
-    requires { ⌜ count ≤ 60000 ⌝ }
-    ensures { λ r. ⌜ outcome r ≡ transmitCheck numbers count live offset len clock ⌝ }
-{
-    if Settings::LATEST < clock {
-        return Outcome::Refused(Reason::BadTime);
-    }
-    if clock < numbers.last {
-        return Outcome::Refused(Reason::BadTime);
-    }
-    if offset == 0 {
-        return Outcome::Refused(Reason::NotSent);
-    }
-    if count + 1 < offset {
-        return Outcome::Refused(Reason::NotSent);
-    }
-    if offset <= count {
-        return Outcome::Done;
-    }
-    if SentPackets::MOST_SENT <= count {
-        return Outcome::Refused(Reason::TooMany);
-    }
-    if numbers.free_window() < len {
-        return Outcome::Refused(Reason::NoWindow);
-    }
-    if SentPackets::PLACES <= live {
-        return Outcome::Refused(Reason::NoPlace);
-    }
-    Outcome::Done
-}
-
-impl Packet {
-    // Sent again.
-    pub(crate) fn sent_again(self) -> Packet
-        ensures { λ r. ⌜ r ≡ withResent self ⌝ }
-    {
-        let mut next = self;
-        next.resent = 1;
-        next
-    }
-}
 
 impl SentPackets {
     // A retransmission, which is noted where the packet is still kept.

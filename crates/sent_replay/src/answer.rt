@@ -1,10 +1,10 @@
 // Document 01's numbers for what the tracker answers. What cannot be told becomes a value that no list
 // has.
 use lines::answer::of_sack;
-use sent::answer::NumberTold;
-use sent::answer::Outcome;
-use sent::answer::Reason;
-use sent::answer::SeqTold;
+use outgoing::answer::NumberTold;
+use outgoing::answer::Outcome;
+use outgoing::answer::Reason;
+use outgoing::answer::SeqTold;
 
 pub fn of_reason(reason: Reason) -> u64 {
     match reason {

@@ -6,11 +6,11 @@ use crate::answer::seq;
 use feed::Feed;
 use feed::Held;
 use feed::both;
+use outgoing::answer::LostTold;
 use packet::header::PacketType;
 use packet::header::TypeRead;
 use packet::seq::SeqNum;
 use report::text::front;
-use sent::answer::LostTold;
 use sent::answer::Tracked;
 use sent::state::SentPackets;
 

@@ -6,13 +6,13 @@ use lib.ListN.{take}
 use lib.Ieee.{le, ofBits, toSigned, mul, ofInt, div}
 use Rattle.packet.specs.Layout.{bytes}
 use Rattle.congestion.specs.Numbers.{soundOf, adjustedOf, timedOf, creditedOf}
-use Rattle.congestion.specs.Delays.{remainingOf, roomOf, takeOf}
+use Rattle.controller.specs.Delays.{remainingOf, roomOf, takeOf}
 use Rattle.congestion.specs.Window.{adjustmentOf, nextMaximumOf}
 use Rattle.congestion.specs.Trip.{movedOf}
-use Rattle.sent.specs.Loss.{ackedCountOf, lossMarkedOf, lossCountedOf}
-use Rattle.sent.specs.Transmit.{transmitCheck, sentOf, transmitOf}
-use Rattle.sent.specs.Ack.{ackCheck, markedOf, ackOf, sackedFrom, offsetsFrom, heardOf, newlyAckedOf, allAcknowledgedOf, fromUnacked}
-use Rattle.sent.specs.Lost.{lostFrom, insertOf, ascendingOf, lostListOf}
+use Rattle.outgoing.specs.Loss.{ackedCountOf, lossMarkedOf, lossCountedOf}
+use Rattle.outgoing.specs.Transmit.{transmitCheck, sentOf, transmitOf}
+use Rattle.outgoing.specs.Ack.{ackCheck, markedOf, ackOf, sackedFrom, offsetsFrom, heardOf, newlyAckedOf, allAcknowledgedOf, fromUnacked}
+use Rattle.outgoing.specs.Lost.{lostFrom, insertOf, ascendingOf, lostListOf}
 use Rattle.session.specs.Format.{sectionOf, sectionsOf, gainOf, settingsIn, eventOf, eventsOf, allKnown, sackTotal, sessionIn, isWhole, sessionOf}
 use Rattle.session.specs.Lines.{digitsOf, decimal, lineText, badText, linesFrom, freshOf, linesOf, linesText, printed}
 

@@ -10,12 +10,12 @@ use Rattle.packet.specs.Layout.{typeOf}
 use Rattle.congestion.specs.declared.settings.Settings.{Settings}
 use Rattle.congestion.specs.Settings.{inRangeOf}
 use Rattle.congestion.specs.Numbers.{startOf}
-use Rattle.congestion.specs.Delays.{noDelays}
-use Rattle.sent.specs.Tracker.{Tracker}
-use Rattle.sent.specs.Transmit.{transmitOf}
-use Rattle.sent.specs.Ack.{ackOf}
-use Rattle.sent.specs.State.{timeoutOf}
-use Rattle.sent.specs.Read.{inFlightIn, maximumIn, timeoutIn, lostCountIn}
+use Rattle.controller.specs.Delays.{noDelays}
+use Rattle.outgoing.specs.Tracker.{Tracker}
+use Rattle.outgoing.specs.Transmit.{transmitOf}
+use Rattle.outgoing.specs.Ack.{ackOf}
+use Rattle.outgoing.specs.Sound.{timeoutOf}
+use Rattle.outgoing.specs.Read.{inFlightIn, maximumIn, timeoutIn, lostCountIn}
 use Rattle.session.specs.declared.event.Event.{Event}
 use Rattle.session.specs.declared.line.Line.{Line}
 use Rattle.session.specs.Format.{sessionOf, isTransmit, isAck, sackSize, _into_}

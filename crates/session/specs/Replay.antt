@@ -13,7 +13,7 @@ use Rattle.packet.specs.Layout.{typeOf}
 use Rattle.congestion.specs.declared.settings.Settings.{Settings}
 use Rattle.sent.specs.declared.state.SentPackets.{SentPackets}
 use Rattle.sent.specs.State.{transmitAnswer, ackAnswer, timeoutAnswer, newAnswer, readOf, trackerOf}
-use Rattle.sent.specs.Read.{inFlightIn, maximumIn, timeoutIn, lostCountIn}
+use Rattle.outgoing.specs.Read.{inFlightIn, maximumIn, timeoutIn, lostCountIn}
 use Rattle.session.specs.declared.event.Event.{Event}
 use Rattle.session.specs.declared.line.Line.{Line}
 use Rattle.session.specs.declared.replay.Replay.{Replay}

@@ -1,11 +1,11 @@
 // Document 01's numbers for what the tracker answers.
+use outgoing::answer::NumberTold;
+use outgoing::answer::Outcome;
+use outgoing::answer::Reason;
 use packet::sack::SackReason;
-use sent::answer::NumberTold;
-use sent::answer::Outcome;
-use sent::answer::Reason;
 ghost use mathlib.Core.Path.{_≡_};
 ghost use Rattle.packet.specs.Answers.{sackNumber};
-ghost use Rattle.sent.specs.Answers.{reasonNumber, outcome, numberTold};
+ghost use Rattle.outgoing.specs.Answers.{reasonNumber, outcome, numberTold};
 ghost use Rattle.session.specs.Lines.{numberOf};
 ghost use Rattle.session.specs.Replay.{valueOr};
 

@@ -9,8 +9,8 @@ use crate::replay::Replay;
 use crate::replay::StepReason;
 use crate::replay::Stepped;
 use crate::replay::Told;
+use outgoing::lost::type_of;
 use packet::extension::Part;
-use packet::header::PacketType;
 use packet::seq::SeqNum;
 use sent::answer::Tracked;
 use sent::state::SentPackets;
@@ -19,7 +19,6 @@ ghost use mathlib.Core.Path.{_≡_};
 ghost use lib.Dec.{leb};
 ghost use lib.ListN.{length};
 ghost use Rattle.common.specs.Answer.{done};
-ghost use Rattle.packet.specs.Layout.{typeOf};
 ghost use Rattle.sent.specs.Answers.{told};
 ghost use Rattle.session.specs.Format.{sackSize};
 ghost use Rattle.session.specs.Replay.{found, eventAt, stepped, eventState, shownOf, takenOf, stepOf, stepAnswer};
@@ -28,19 +27,6 @@ ghost use Rattle.session.specs.Replay.{found, eventAt, stepped, eventSta
 enum Found {
     Known(Event),
     Missing,
-}
-
-// The type of a number up to 4.
-fn type_of(number: u8) -> PacketType
-    ensures { λ r. ⌜ r ≡ typeOf number ⌝ }
-{
-    match number {
-        0 => PacketType::Data,
-        1 => PacketType::Fin,
-        2 => PacketType::State,
-        3 => PacketType::Reset,
-        _ => PacketType::Syn,
-    }
 }
 
 // The event of an index.

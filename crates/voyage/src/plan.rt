@@ -2,6 +2,7 @@
 // its bytes are functions of the seed and the offset, so that none is kept.
 use congestion::settings::Settings;
 use packet::header::PacketType;
+use packet::seq::SeqNum;
 
 // `packets` are to be sent, with payloads of up to `most` bytes, to a receiver with a buffer of
 // `length` bytes. The channel holds up to `depth` datagrams. Of 16 that it hands out it loses
@@ -98,6 +99,11 @@ impl Plan {
         }
         let past = key(self.seed, offset) % (self.most % 1000 + 1);
         std::num::wrapping_add_u64(past, 1) as usize
+    }
+
+    // The offset of a number.
+    pub fn offset_of(self, number: SeqNum) -> u32 {
+        number.offset_from(SeqNum(self.initial)).0 as u32
     }
 
     pub fn of_seed(seed: u64) -> Plan {

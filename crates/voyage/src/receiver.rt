@@ -8,6 +8,7 @@ use crate::world::Tally;
 use crate::world::World;
 use crate::world::bump;
 use crate::world::by_receiver;
+use packet::decode::Packet;
 use packet::header::Header;
 use packet::header::PacketType;
 use packet::seq::SeqNum;
@@ -15,6 +16,7 @@ use recv::Count;
 use recv::Number;
 use recv::ReceiveBuffer;
 use recv::Refusal;
+use recv::Taken;
 use recv::Writing;
 use report::text::front;
 
@@ -54,16 +56,22 @@ fn written_told(answer: Writing, number: u64, before: u64, after: u64) -> Receiv
 }
 
 // A payload arrives under its number.
-pub fn arrive(world: World, buf: &mut [u8], number: SeqNum, payload: &[u8]) -> Acted {
+fn arrive_as(world: World, buf: &mut [u8], number: SeqNum, payload: &[u8]) -> Acted {
     let receiver = world.receiver;
     let before = number_of(receiver.ack_num());
     let written = receiver.write(buf, number, payload);
     let answer = written.answer;
     let state = written.state;
     let after = number_of(state.ack_num());
-    let mut here = world;
-    here.receiver = state;
-    by_receiver(here, written_told(answer, number.0 as u64, before, after))
+    let told = written_told(answer, number.0 as u64, before, after);
+    by_receiver(world.with_receiver(state), told)
+}
+
+// A packet arrives.
+pub fn arrive(world: World, buf: &mut [u8], packet: Packet, datagram: &[u8]) -> Acted {
+    let header = packet.header;
+    let payload = packet.payload;
+    arrive_as(world, buf, header.seq_num, payload.bytes(datagram))
 }
 
 // Past a payload that has been read whole.
@@ -99,23 +107,30 @@ fn compare_all(tally: Tally, plan: Plan, bytes: &[u8]) -> Tally {
     here
 }
 
-fn read_into(world: World, buf: &mut [u8], out: &mut [u8]) -> Acted {
-    let receiver = world.receiver;
-    let tally = world.tally;
-    let plan = world.plan;
-    let taken = receiver.read(buf, out);
+// Compares the bytes that a read took.
+fn compared(world: World, bytes: &[u8]) -> World {
+    let mut here = world;
+    let tally = here.tally;
+    let after = compare_all(tally, here.plan, bytes);
+    here.tally = after;
+    here
+}
+
+// What a read tells, which took the front of these bytes.
+fn read_told(world: World, taken: Taken, out: &[u8]) -> Acted {
     let answer = taken.answer;
     let state = taken.state;
-    let mut here = world;
-    here.receiver = state;
+    let here = world.with_receiver(state);
     match answer {
-        Count::Is(n) => {
-            let compared = compare_all(tally, plan, front(out, n));
-            here.tally = compared;
-            by_receiver(here, ReceiverTold::Read(n as u64))
-        }
+        Count::Is(n) => by_receiver(compared(here, front(out, n)), ReceiverTold::Read(n as u64)),
         Count::Refused(why) => by_receiver(here, ReceiverTold::Unread(of_refusal(why))),
     }
+}
+
+fn read_into(world: World, buf: &mut [u8], out: &mut [u8]) -> Acted {
+    let receiver = world.receiver;
+    let taken = receiver.read(buf, out);
+    read_told(world, taken, out)
 }
 
 // Up to so many bytes are read, and each is compared.
@@ -136,15 +151,21 @@ fn window_of(receiver: ReceiveBuffer) -> u32 {
     }
 }
 
+// The delay that an ack's header tells.
+fn delay_of(world: World) -> u32 {
+    let tally = world.tally;
+    50000 + (tally.seed / 4096 % 250000) as u32
+}
+
 // An ack of this number, with these bytes of SACK, goes into the channel.
-fn ack_out(world: World, number: SeqNum, sack: &[u8], delay: u32, memory: &mut [u8]) -> World {
+fn ack_out(world: World, number: SeqNum, sack: &[u8], memory: &mut [u8]) -> World {
     let tally = world.tally;
     let receiver = world.receiver;
     let header = Header {
         packet_type: PacketType::State,
         conn_id: 4660,
         ts_micros: (tally.clock % 4294967296) as u32,
-        ts_diff_micros: delay,
+        ts_diff_micros: delay_of(world),
         window_size: window_of(receiver),
         seq_num: SeqNum(0),
         ack_num: number,
@@ -153,11 +174,11 @@ fn ack_out(world: World, number: SeqNum, sack: &[u8], delay: u32, memory: &mut [
 }
 
 // An ack with these bytes of SACK, and the number at the same moment.
-fn ack_with(world: World, sack: &[u8], delay: u32, memory: &mut [u8]) -> Acted {
+fn ack_with(world: World, sack: &[u8], memory: &mut [u8]) -> Acted {
     let receiver = world.receiver;
     match receiver.ack_num() {
         Number::Is(number) => {
-            let out = ack_out(world, number, sack, delay, memory);
+            let out = ack_out(world, number, sack, memory);
             by_receiver(out, ReceiverTold::Built(number.0 as u64, sack.len() as u64))
         }
         Number::Refused(why) => by_receiver(world, ReceiverTold::Unbuilt(of_refusal(why))),
@@ -165,21 +186,21 @@ fn ack_with(world: World, sack: &[u8], delay: u32, memory: &mut [u8]) -> Acted {
 }
 
 // An ack is built in this room.
-fn build_in(world: World, room: &mut [u8], delay: u32, memory: &mut [u8]) -> Acted {
+fn build_in(world: World, room: &mut [u8], memory: &mut [u8]) -> Acted {
     let receiver = world.receiver;
     let count = receiver.selective_ack(room);
     match count {
-        Count::Is(n) => ack_with(world, front(room, n), delay, memory),
+        Count::Is(n) => ack_with(world, front(room, n), memory),
         Count::Refused(why) => by_receiver(world, ReceiverTold::Unbuilt(of_refusal(why))),
     }
 }
 
 // An ack is built, with room for so many bytes of SACK.
-pub fn build(world: World, size: usize, delay: u32, memory: &mut [u8]) -> Acted {
+pub fn build(world: World, size: usize, memory: &mut [u8]) -> Acted {
     let mut room = io::buffer();
     if size <= 4096 {
-        build_in(world, &mut room[..size], delay, memory)
+        build_in(world, &mut room[..size], memory)
     } else {
-        build_in(world, &mut room, delay, memory)
+        build_in(world, &mut room, memory)
     }
 }

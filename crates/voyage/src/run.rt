@@ -2,8 +2,11 @@
 use crate::channel::Channel;
 use crate::plan::Plan;
 use crate::plan::key;
+use crate::step::done;
 use crate::step::go_on;
+use crate::step::next_step;
 use crate::words::say;
+use crate::world::Acted;
 use crate::world::Tally;
 use crate::world::World;
 use crate::world::bump;
@@ -13,7 +16,7 @@ use report::text::print;
 use report::text::put_bytes;
 use report::text::put_next;
 use report::text::put_number;
-use sent::lent::Head;
+use sent_lent::head::Head;
 
 // How a run ended.
 pub struct Ended {
@@ -52,7 +55,16 @@ fn end_of(world: World) -> Ended {
     }
 }
 
-// One step, which is printed where that is asked for.
+// What a step told is counted, and printed where that is asked for.
+fn noted(acted: Acted, is_shown: bool) -> World {
+    let told = acted.told;
+    if is_shown {
+        say(told);
+    }
+    acted.world_counted()
+}
+
+// Time goes on, and the step of this index is done.
 fn stepped(
     world: World,
     samples: &mut [u64; 2048],
@@ -64,13 +76,10 @@ fn stepped(
     memory: &mut [u8],
     is_shown: bool,
 ) -> World {
-    let acted = go_on(world, samples, times, sizes, marks, index, buf, memory);
-    let told = acted.told;
-    if is_shown {
-        say(told);
-    }
-    let after = acted.world;
-    after
+    let here = go_on(world);
+    let step = next_step(here, index);
+    let acted = done(here, samples, times, sizes, marks, step, buf, memory);
+    noted(acted, is_shown)
 }
 
 // A run that has not ended by then is not finished.

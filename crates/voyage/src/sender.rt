@@ -2,29 +2,28 @@
 use crate::plan::fill;
 use crate::plan::key;
 use crate::plan::kind_of;
+use crate::step::Step;
 use crate::world::Acted;
 use crate::world::SenderTold;
 use crate::world::World;
 use crate::world::by_sender;
 use crate::world::nothing;
+use outgoing::answer::LostTold;
+use outgoing::answer::NumberTold;
+use outgoing::answer::SeqTold;
+use packet::decode::Packet;
 use packet::header::Header;
 use packet::seq::SeqNum;
 use report::text::front;
-use sent::answer::LostTold;
-use sent::answer::NumberTold;
-use sent::answer::SeqTold;
-use sent::lent::Head;
+use sent_lent::head::Head;
+use sent_lent::head::Stepped;
 use sent_replay::answer::of_outcome;
 use sent_replay::answer::of_reason;
 
-// The packet of a number, with its payload, goes into the channel.
-fn goes_out(world: World, number: SeqNum, offset: u32, memory: &mut [u8]) -> World {
-    let plan = world.plan;
+// The header of a packet with a payload of this size.
+fn header_of(world: World, number: SeqNum, size: usize) -> Header {
     let tally = world.tally;
-    let size = plan.size_of(offset);
-    let mut payload = io::buffer();
-    fill(&mut payload, size, key(plan.seed, offset));
-    let header = Header {
+    Header {
         packet_type: kind_of(size),
         conn_id: 4660,
         ts_micros: (tally.clock % 4294967296) as u32,
@@ -32,12 +31,22 @@ fn goes_out(world: World, number: SeqNum, offset: u32, memory: &mut [u8]) -> Wor
         window_size: 0,
         seq_num: number,
         ack_num: SeqNum(0),
-    };
+    }
+}
+
+// The packet of a number, with its payload, goes into the channel.
+fn goes_out(world: World, number: SeqNum, memory: &mut [u8]) -> World {
+    let plan = world.plan;
+    let offset = plan.offset_of(number);
+    let size = plan.size_of(offset);
+    let header = header_of(world, number, size);
+    let mut payload = io::buffer();
+    fill(&mut payload, size, key(plan.seed, offset));
     world.with_packet(memory, header, b"", front(&payload, size))
 }
 
-// A packet is sent, or sent again, under its number at a time. Only what the tracker takes goes out.
-fn transmit(
+// The tracker hears of a packet that is sent, or sent again, under its number at a time.
+fn track(
     world: World,
     samples: &[u64; 2048],
     times: &mut [u64; 512],
@@ -45,16 +54,14 @@ fn transmit(
     marks: &mut [u8; 2048],
     number: SeqNum,
     clock: u64,
-    memory: &mut [u8],
-) -> Acted {
+) -> Stepped {
     let plan = world.plan;
     let sender = world.sender;
-    let offset = number.offset_from(SeqNum(plan.initial)).0 as u32;
+    let offset = plan.offset_of(number);
     let size = plan.size_of(offset);
-    let is_again = offset <= sender.count;
-    let len = (size % 65536) as u32;
     let kind = kind_of(size);
-    let tracked = sender.on_transmit(
+    let len = (size % 65536) as u32;
+    sender.on_transmit(
         samples,
         times,
         sizes,
@@ -64,21 +71,59 @@ fn transmit(
         offset,
         len,
         clock,
-    );
+    )
+}
+
+// What is told of a packet that goes out: for the first time, or again.
+fn told_of(world: World, number: SeqNum) -> SenderTold {
+    let plan = world.plan;
+    let sender = world.sender;
+    let offset = plan.offset_of(number);
+    let wire = number.0 as u64;
+    if offset <= sender.count {
+        SenderTold::SentAgain(wire)
+    } else {
+        SenderTold::Sent(wire, plan.size_of(offset) as u64)
+    }
+}
+
+// Only what the tracker takes goes out.
+fn answered(world: World, tracked: Stepped, number: SeqNum, memory: &mut [u8]) -> Acted {
     let answer = tracked.answer;
     let head = tracked.head;
     let refusal = of_outcome(answer);
-    let mut here = world;
-    here.sender = head;
-    let wire = number.0 as u64;
+    let here = world.with_sender(head);
     if refusal != 0 {
-        return by_sender(here, SenderTold::Unsent(wire, refusal));
-    }
-    let out = goes_out(here, number, offset, memory);
-    if is_again {
-        by_sender(out, SenderTold::SentAgain(wire))
+        by_sender(here, SenderTold::Unsent(number.0 as u64, refusal))
     } else {
-        by_sender(out, SenderTold::Sent(wire, size as u64))
+        by_sender(goes_out(here, number, memory), told_of(world, number))
+    }
+}
+
+// What is to be sent: the packet of a number, at a time; nothing; nothing, as the tracker refuses.
+pub enum Due {
+    Packet(SeqNum, u64),
+    Nothing,
+    Refused(u64),
+}
+
+// A packet is sent, or sent again.
+fn transmit(
+    world: World,
+    samples: &[u64; 2048],
+    times: &mut [u64; 512],
+    sizes: &mut [u32; 1024],
+    marks: &mut [u8; 2048],
+    due: Due,
+    memory: &mut [u8],
+) -> Acted {
+    match due {
+        Due::Packet(number, clock) => {
+            let tracked = track(world, samples, times, sizes, marks, number, clock);
+            answered(world, tracked, number, memory)
+        }
+        Due::Nothing => nothing(world),
+        Due::Refused(answer) => by_sender(world, SenderTold::Unsent(0, answer)),
     }
 }
 
@@ -104,32 +149,26 @@ fn ago(clock: u64, back: u64) -> u64 {
     if back <= clock { clock - back } else { 0 }
 }
 
-// The next packet is sent, if it may, by a clock that is so far back. One that is so far past the next
-// is only offered to the tracker.
-pub fn send(
+// The next packet, if it may go, by a clock that is so far back. One that is so far past the next is
+// only offered to the tracker.
+fn next_due(
     world: World,
     samples: &[u64; 2048],
-    times: &mut [u64; 512],
-    sizes: &mut [u32; 1024],
-    marks: &mut [u8; 2048],
+    times: &[u64; 512],
+    sizes: &[u32; 1024],
+    marks: &[u8; 2048],
     far: u64,
     back: u64,
-    memory: &mut [u8],
-) -> Acted {
-    if far == 0 {
-        if !may_send(world) {
-            return nothing(world);
-        }
+) -> Due {
+    if (far == 0) & !may_send(world) {
+        return Due::Nothing;
     }
     let sender = world.sender;
     let tally = world.tally;
+    let clock = ago(tally.clock, back);
     match sender.next_seq_num(samples, times, sizes, marks) {
-        SeqTold::Seq(number) => {
-            let meant = number.plus((far % 65536) as u16);
-            let clock = ago(tally.clock, back);
-            transmit(world, samples, times, sizes, marks, meant, clock, memory)
-        }
-        SeqTold::Refused(reason) => by_sender(world, SenderTold::Unsent(0, of_reason(reason))),
+        SeqTold::Seq(number) => Due::Packet(number.plus((far % 65536) as u16), clock),
+        SeqTold::Refused(reason) => Due::Refused(of_reason(reason)),
     }
 }
 
@@ -147,43 +186,65 @@ fn lost_of(
     }
 }
 
-// The lost packet at a position, which is taken round the list, is sent again.
-pub fn send_lost(
+// The lost packet at a position, which is taken round the list.
+fn lost_due(
     world: World,
     samples: &[u64; 2048],
-    times: &mut [u64; 512],
-    sizes: &mut [u32; 1024],
-    marks: &mut [u8; 2048],
+    times: &[u64; 512],
+    sizes: &[u32; 1024],
+    marks: &[u8; 2048],
     position: u64,
-    memory: &mut [u8],
-) -> Acted {
+) -> Due {
     let sender = world.sender;
     let tally = world.tally;
+    let clock = tally.clock;
     let count = lost_of(sender, samples, times, sizes, marks);
     if count == 0 {
-        return nothing(world);
+        return Due::Nothing;
     }
     let at = (position % count % 65536) as u32;
     match sender.lost_at(samples, times, sizes, marks, at) {
         LostTold::Lost(found) => {
             let number = found.seq_num;
-            transmit(
-                world,
-                samples,
-                times,
-                sizes,
-                marks,
-                number,
-                tally.clock,
-                memory,
-            )
+            Due::Packet(number, clock)
         }
-        LostTold::Refused(reason) => by_sender(world, SenderTold::Unsent(0, of_reason(reason))),
+        LostTold::Refused(reason) => Due::Refused(of_reason(reason)),
     }
 }
 
-// The packet at a place of the tracker is sent again, if it is not acknowledged. The second of the four
-// marks of a place says that.
+// What a step sends.
+fn due_of(
+    world: World,
+    samples: &[u64; 2048],
+    times: &[u64; 512],
+    sizes: &[u32; 1024],
+    marks: &[u8; 2048],
+    step: Step,
+) -> Due {
+    match step {
+        Step::Send(far, back) => next_due(world, samples, times, sizes, marks, far, back),
+        Step::SendLost(position) => lost_due(world, samples, times, sizes, marks, position),
+        _ => Due::Nothing,
+    }
+}
+
+// The packet at a place of the tracker, if it is not acknowledged. The second of the four marks of a
+// place says that.
+fn place_due(world: World, marks: &[u8; 2048], place: usize) -> Due {
+    let sender = world.sender;
+    let tally = world.tally;
+    if place >= 512 {
+        return Due::Nothing;
+    }
+    if marks[4 * place + 1] != 0 {
+        return Due::Nothing;
+    }
+    let gone = std::num::wrapping_sub_u32(sender.count, sender.live);
+    let offset = std::num::wrapping_add_u16((gone % 65536) as u16, (place + 1) as u16);
+    Due::Packet(SeqNum(sender.initial).plus(offset), tally.clock)
+}
+
+// That packet is sent again.
 fn send_place(
     world: World,
     samples: &[u64; 2048],
@@ -193,29 +254,9 @@ fn send_place(
     place: usize,
     memory: &mut [u8],
 ) -> World {
-    let sender = world.sender;
-    let tally = world.tally;
-    if place >= 512 {
-        return world;
-    }
-    if marks[4 * place + 1] != 0 {
-        return world;
-    }
-    let gone = std::num::wrapping_sub_u32(sender.count, sender.live);
-    let offset = std::num::wrapping_add_u16((gone % 65536) as u16, (place + 1) as u16);
-    let number = SeqNum(sender.initial).plus(offset);
-    let acted = transmit(
-        world,
-        samples,
-        times,
-        sizes,
-        marks,
-        number,
-        tally.clock,
-        memory,
-    ).counted();
-    let after = acted.world;
-    after
+    let due = place_due(world, marks, place);
+    let acted = transmit(world, samples, times, sizes, marks, due, memory);
+    acted.world_counted()
 }
 
 // Every packet that is not acknowledged is sent again.
@@ -237,8 +278,16 @@ fn send_all(
     here
 }
 
+// What is told of a timeout, from the counts before it.
+fn timed_out(before: World, after: World) -> Acted {
+    let first = before.tally;
+    let last = after.tally;
+    let count = std::num::wrapping_sub_u64(last.again, first.again);
+    by_sender(after, SenderTold::TimedOut(count))
+}
+
 // A timeout event, and what follows from it.
-pub fn time_out(
+fn time_out(
     world: World,
     samples: &[u64; 2048],
     times: &mut [u64; 512],
@@ -247,20 +296,49 @@ pub fn time_out(
     memory: &mut [u8],
 ) -> Acted {
     let sender = world.sender;
-    let before = world.tally;
     let tracked = sender.on_timeout(samples, times, sizes, marks);
     let answer = tracked.answer;
     let head = tracked.head;
     let refusal = of_outcome(answer);
-    let mut here = world;
-    here.sender = head;
+    let here = world.with_sender(head);
     if refusal != 0 {
-        return by_sender(here, SenderTold::Unsent(0, refusal));
+        by_sender(here, SenderTold::Unsent(0, refusal))
+    } else {
+        timed_out(world, send_all(here, samples, times, sizes, marks, memory))
     }
-    let after = send_all(here, samples, times, sizes, marks, memory);
-    let tally = after.tally;
-    let count = std::num::wrapping_sub_u64(tally.again, before.again);
-    by_sender(after, SenderTold::TimedOut(count))
+}
+
+// A step of the sender.
+pub fn send(
+    world: World,
+    samples: &[u64; 2048],
+    times: &mut [u64; 512],
+    sizes: &mut [u32; 1024],
+    marks: &mut [u8; 2048],
+    step: Step,
+    memory: &mut [u8],
+) -> Acted {
+    match step {
+        Step::TimeOut => time_out(world, samples, times, sizes, marks, memory),
+        _ => {
+            let due = due_of(world, samples, times, sizes, marks, step);
+            transmit(world, samples, times, sizes, marks, due, memory)
+        }
+    }
+}
+
+// What is told of an ack with so many bytes of SACK.
+fn heard(world: World, tracked: Stepped, number: SeqNum, size: usize) -> Acted {
+    let answer = tracked.answer;
+    let head = tracked.head;
+    let refusal = of_outcome(answer);
+    let here = world.with_sender(head);
+    let wire = number.0 as u64;
+    if refusal != 0 {
+        by_sender(here, SenderTold::Unheard(wire, refusal))
+    } else {
+        by_sender(here, SenderTold::Heard(wire, size as u64))
+    }
 }
 
 // An ack is heard, by a clock that is so far back.
@@ -270,25 +348,18 @@ pub fn hear(
     times: &mut [u64; 512],
     sizes: &mut [u32; 1024],
     marks: &mut [u8; 2048],
-    header: Header,
-    sack: &[u8],
+    packet: Packet,
+    datagram: &[u8],
     back: u64,
 ) -> Acted {
     let sender = world.sender;
     let tally = world.tally;
+    let clock = ago(tally.clock, back);
+    let header = packet.header;
     let number = header.ack_num;
     let delay = header.ts_diff_micros as u64;
-    let clock = ago(tally.clock, back);
+    let part = packet.sack;
+    let sack = part.bytes(datagram);
     let tracked = sender.on_ack(samples, times, sizes, marks, number, sack, delay, clock);
-    let answer = tracked.answer;
-    let head = tracked.head;
-    let refusal = of_outcome(answer);
-    let mut here = world;
-    here.sender = head;
-    let wire = number.0 as u64;
-    if refusal != 0 {
-        by_sender(here, SenderTold::Unheard(wire, refusal))
-    } else {
-        by_sender(here, SenderTold::Heard(wire, sack.len() as u64))
-    }
+    heard(world, tracked, number, sack.len())
 }

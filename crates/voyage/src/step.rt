@@ -7,8 +7,6 @@ use crate::receiver::read;
 use crate::script;
 use crate::sender::hear;
 use crate::sender::send;
-use crate::sender::send_lost;
-use crate::sender::time_out;
 use crate::world::Acted;
 use crate::world::ChannelTold;
 use crate::world::Told;
@@ -18,7 +16,7 @@ use crate::world::nothing;
 use lines::answer::of_reason;
 use packet::decode::Decoded;
 use packet::decode::Packet;
-use packet::header::PacketType;
+use packet::decode::Reason;
 
 // What the channel does with a datagram: it takes it out and hands it over, by a clock that is so far
 // back; it hands it over and keeps it; it takes it out, and that is all.
@@ -39,36 +37,22 @@ pub enum Step {
     TimeOut,
 }
 
-fn is_ack(kind: PacketType) -> bool {
+// An ack is a State.
+fn is_ack(packet: Packet) -> bool {
+    let header = packet.header;
+    let kind = header.packet_type;
     kind.number() == 2
 }
 
-// A packet is handed to the end that it is for. An ack is a State.
-fn hand_packet(
-    world: World,
-    samples: &mut [u64; 2048],
-    times: &mut [u64; 512],
-    sizes: &mut [u32; 1024],
-    marks: &mut [u8; 2048],
-    packet: Packet,
-    datagram: &[u8],
-    back: u64,
-    buf: &mut [u8],
-) -> Acted {
-    let header = packet.header;
-    let kind = header.packet_type;
-    if is_ack(kind) {
-        let sack = packet.sack;
-        let bytes = sack.bytes(datagram);
-        hear(world, samples, times, sizes, marks, header, bytes, back)
-    } else {
-        let payload = packet.payload;
-        let number = header.seq_num;
-        arrive(world, buf, number, payload.bytes(datagram))
+fn undecoded(world: World, why: Reason) -> Acted {
+    Acted {
+        world,
+        told: Told::ByChannel(ChannelTold::Undecoded(of_reason(why))),
     }
 }
 
-fn hand_datagram(
+// A datagram is handed to the end that it is for.
+fn hand(
     world: World,
     samples: &mut [u64; 2048],
     times: &mut [u64; 512],
@@ -79,21 +63,14 @@ fn hand_datagram(
     buf: &mut [u8],
 ) -> Acted {
     match Packet::decode(datagram) {
-        Decoded::Accepted(packet) => hand_packet(
-            world,
-            samples,
-            times,
-            sizes,
-            marks,
-            packet,
-            datagram,
-            back,
-            buf,
-        ),
-        Decoded::Undecoded(why) => Acted {
-            world,
-            told: Told::ByChannel(ChannelTold::Undecoded(of_reason(why))),
-        },
+        Decoded::Accepted(packet) => {
+            if is_ack(packet) {
+                hear(world, samples, times, sizes, marks, packet, datagram, back)
+            } else {
+                arrive(world, buf, packet, datagram)
+            }
+        }
+        Decoded::Undecoded(why) => undecoded(world, why),
     }
 }
 
@@ -101,8 +78,7 @@ fn lost_datagram(datagram: &[u8]) -> ChannelTold {
     match Packet::decode(datagram) {
         Decoded::Accepted(packet) => {
             let header = packet.header;
-            let kind = header.packet_type;
-            if is_ack(kind) {
+            if is_ack(packet) {
                 ChannelTold::LostAck(header.ack_num.0 as u64)
             } else {
                 ChannelTold::Lost(header.seq_num.0 as u64)
@@ -128,6 +104,38 @@ fn repeated(world: World) -> World {
     here
 }
 
+impl Way {
+    // How far back the clock is.
+    fn back(self) -> u64 {
+        match self {
+            Way::Hand(back) => back,
+            _ => 0,
+        }
+    }
+
+    fn is_loss(self) -> bool {
+        match self {
+            Way::Lose => true,
+            _ => false,
+        }
+    }
+
+    // The channel and the counts when the datagram at a place has gone this way.
+    fn gone(self, world: World, place: usize) -> World {
+        match self {
+            Way::Repeat => repeated(world),
+            _ => without(world, place),
+        }
+    }
+}
+
+fn lose(world: World, datagram: &[u8]) -> Acted {
+    Acted {
+        world,
+        told: Told::ByChannel(lost_datagram(datagram)),
+    }
+}
+
 // The channel does something with a datagram.
 fn pass(
     world: World,
@@ -146,40 +154,25 @@ fn pass(
         return nothing(world);
     }
     let datagram = channel.part(place).bytes(memory);
-    match way {
-        Way::Hand(back) => hand_datagram(
-            without(world, place),
+    let here = way.gone(world, place);
+    if way.is_loss() {
+        lose(here, datagram)
+    } else {
+        hand(
+            here,
             samples,
             times,
             sizes,
             marks,
             datagram,
-            back,
+            way.back(),
             buf,
-        ),
-        Way::Repeat => hand_datagram(
-            repeated(world),
-            samples,
-            times,
-            sizes,
-            marks,
-            datagram,
-            0,
-            buf,
-        ),
-        Way::Lose => Acted {
-            world: without(world, place),
-            told: Told::ByChannel(lost_datagram(datagram)),
-        },
+        )
     }
 }
 
-fn delay_of(world: World) -> u32 {
-    let tally = world.tally;
-    50000 + (tally.seed / 4096 % 250000) as u32
-}
-
-fn done(
+// Does a step.
+pub fn done(
     world: World,
     samples: &mut [u64; 2048],
     times: &mut [u64; 512],
@@ -190,7 +183,6 @@ fn done(
     memory: &mut [u8],
 ) -> Acted {
     match step {
-        Step::Send(far, back) => send(world, samples, times, sizes, marks, far, back, memory),
         Step::Pass(way, start) => pass(
             world,
             samples,
@@ -202,33 +194,10 @@ fn done(
             buf,
             memory,
         ),
-        Step::Build(size) => build(world, (size % 4096) as usize, delay_of(world), memory),
+        Step::Build(size) => build(world, (size % 4096) as usize, memory),
         Step::Read(most) => read(world, buf, (most % 4096) as usize),
-        Step::SendLost(position) => send_lost(
-            world,
-            samples,
-            times,
-            sizes,
-            marks,
-            position,
-            memory,
-        ),
-        Step::TimeOut => time_out(world, samples, times, sizes, marks, memory),
+        _ => send(world, samples, times, sizes, marks, step, memory),
     }
-}
-
-// Does a step, and counts what it told.
-pub fn act(
-    world: World,
-    samples: &mut [u64; 2048],
-    times: &mut [u64; 512],
-    sizes: &mut [u32; 1024],
-    marks: &mut [u8; 2048],
-    step: Step,
-    buf: &mut [u8],
-    memory: &mut [u8],
-) -> Acted {
-    done(world, samples, times, sizes, marks, step, buf, memory).counted()
 }
 
 // How far back a clock goes: mostly not at all.
@@ -295,33 +264,24 @@ fn step_of(plan: Plan, drawn: u64) -> Step {
     Step::Read(rest % 3)
 }
 
-// The step of this index: of the fixed ones, or as it is drawn.
-fn next_step(plan: Plan, index: u64, drawn: u64) -> Step {
+// The step of this index, of the fixed ones or as it is drawn.
+pub fn next_step(world: World, index: u64) -> Step {
+    let plan = world.plan;
+    let tally = world.tally;
     if plan.is_fixed {
         script::step_at(index)
     } else {
-        step_of(plan, drawn)
+        step_of(plan, tally.seed / 16)
     }
 }
 
-// Time goes on, and the step of this index is done.
-pub fn go_on(
-    world: World,
-    samples: &mut [u64; 2048],
-    times: &mut [u64; 512],
-    sizes: &mut [u32; 1024],
-    marks: &mut [u8; 2048],
-    index: u64,
-    buf: &mut [u8],
-    memory: &mut [u8],
-) -> Acted {
-    let plan = world.plan;
+// Time goes on, and a number is drawn.
+pub fn go_on(world: World) -> World {
     let mut here = world;
     let mut tally = here.tally;
     let drawn = next(tally.seed);
     tally.seed = drawn;
     tally.clock = std::num::wrapping_add_u64(tally.clock, drawn / 65536 % 20000);
     here.tally = tally;
-    let step = next_step(plan, index, drawn / 16);
-    act(here, samples, times, sizes, marks, step, buf, memory)
+    here
 }

@@ -4,7 +4,7 @@ use crate::channel::Fate;
 use crate::plan::Plan;
 use packet::header::Header;
 use recv::ReceiveBuffer;
-use sent::lent::Head;
+use sent_lent::head::Head;
 
 // Which byte is to be read next: byte `at` of the payload of offset `want`. `refused` has a count for
 // each answer number.
@@ -182,6 +182,20 @@ impl Tally {
 }
 
 impl World {
+    // The same with this tracker.
+    pub fn with_sender(self, sender: Head) -> World {
+        let mut here = self;
+        here.sender = sender;
+        here
+    }
+
+    // The same with this receiver.
+    pub fn with_receiver(self, receiver: ReceiveBuffer) -> World {
+        let mut here = self;
+        here.receiver = receiver;
+        here
+    }
+
     // A packet goes into the channel; where that is full it is lost.
     pub fn with_packet(
         self,
@@ -209,13 +223,13 @@ impl World {
 }
 
 impl Acted {
-    // The same with what was told counted.
-    pub fn counted(self) -> Acted {
+    // The world with what was told counted.
+    pub fn world_counted(self) -> World {
         let told = self.told;
         let mut world = self.world;
         let tally = world.tally;
         let after = tally.counted(told);
         world.tally = after;
-        Acted { world, told }
+        world
     }
 }

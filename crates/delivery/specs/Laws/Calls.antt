@@ -2,9 +2,9 @@
 use Prim.Native.Nat.{ℕ, _+_, _≤_}
 use native.Mathlib.Omega.{arith}
 use mathlib.Core.Bool.{Bool, true, false, _&&_, cond}
-use mathlib.Core.List.{List, [], _∷_, _++_}
+use mathlib.Core.List.{List}
 use mathlib.Core.Logic.{_⊎_, inl, inr}
-use mathlib.Core.Path.{_≡_, _∙_, refl, ap, sym}
+use mathlib.Core.Path.{_≡_, _∙_, refl, ap}
 use lib.Dec.{leb}
 use lib.ListN.{length, drop}
 use lib.Seq.{take-append-seam}
@@ -12,12 +12,13 @@ use borrow.Author.Tests.{leb-true}
 use Rattle.common.specs.Answer.{Answer, done, refused, _then_}
 use Rattle.packet.specs.declared.seq.SeqNum.{SeqNum}
 use Rattle.packet.specs.declared.header.PacketType.{PacketType}
-use Rattle.sent.specs.declared.state.Packet.{Packet}
+use Rattle.outgoing.specs.declared.kept.Packet.{Packet}
 use Rattle.sent.specs.declared.state.SentPackets.{SentPackets}
-use Rattle.sent.specs.Tracker.{Tracker, offsetIn, clockedOf, clockAnswer}
-use Rattle.sent.specs.Transmit.{mayTransmit, roomAnswer, transmitCheck, firstSent, sentOf, transmitOf}
-use Rattle.sent.specs.Ack.{delayAnswer, mayAck, ackCheck, markedOf, ackOf}
-use Rattle.sent.specs.State.{trackerOf, writtenOf, stateSoundOf, answeredOf, answeredAs, transmitAnswer, ackStateOf, ackAnswer, timeoutOf, timeoutAnswer}
+use Rattle.outgoing.specs.Tracker.{Tracker, offsetIn, clockedOf, clockAnswer}
+use Rattle.outgoing.specs.Transmit.{mayTransmit, roomAnswer, transmitCheck, firstSent, sentOf, transmitOf}
+use Rattle.outgoing.specs.Ack.{delayAnswer, mayAck, ackCheck, markedOf, ackOf}
+use Rattle.outgoing.specs.Sound.{timeoutOf}
+use Rattle.sent.specs.State.{trackerOf, writtenOf, stateSoundOf, answeredOf, answeredAs, transmitAnswer, ackStateOf, ackAnswer, timeoutAnswer}
 use Rattle.packet.specs.Sack.{maskAnswer}
 use Rattle.delivery.specs.Run.{isDone, accepted}
 use Rattle.delivery.specs.Laws.Marks.{ackedByOf}

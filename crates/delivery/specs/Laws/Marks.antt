@@ -1,7 +1,7 @@
 -- What the sender holds as acknowledged, call by call: a first transmit adds one that is not, a retransmission and a timeout change nothing, and an
 -- ack adds no other than those that it speaks of.
 use Prim.Native.Nat.{ℕ, zero, suc, _+_, _-_, _*_, _≤_, _<_}
-use native.Mathlib.Nat.{add-zero, add-suc}
+use native.Mathlib.Nat.{add-zero}
 use native.Mathlib.Omega.{arith}
 use mathlib.Core.Bool.{Bool, true, false, _&&_, not, cond}
 use mathlib.Core.List.{List, [], _∷_, _++_, map, append-assoc}
@@ -11,13 +11,13 @@ use lib.Dec.{leb, ltb, eqb}
 use lib.ListN.{length, getD, set, replicate, length-append, length-set, length-map, length-replicate, getD-replicate, List·getD-append}
 use borrow.Author.Tests.{ltb-true, ltb-false, eqb-true, eqb-false}
 use lib.Seq.{map-set-same, getD-append-add, getD-set-other}
-use Rattle.sent.specs.declared.state.Packet.{Packet}
-use Rattle.sent.specs.Tracker.{Tracker, goneOf, isKept, packetAt, noPacket, withPacketAt, clockedOf}
-use Rattle.sent.specs.Loss.{isUnacked, withLost, isNewlyLostOf, ackedCountOf, lossMarkedOf}
-use Rattle.sent.specs.Transmit.{withResent, resentOf, recordedOf}
-use Rattle.sent.specs.Ack.{sackedFrom, offsetsFrom, heardOf, withAcked, newlyAckedOf, acknowledgedOf, allAcknowledgedOf, lossOf, fromUnacked, releasedOf, markedOf}
+use Rattle.outgoing.specs.declared.kept.Packet.{Packet}
+use Rattle.outgoing.specs.Tracker.{Tracker, goneOf, isKept, packetAt, noPacket, withPacketAt}
+use Rattle.outgoing.specs.Loss.{isUnacked, withLost, isNewlyLostOf, ackedCountOf, lossMarkedOf}
+use Rattle.outgoing.specs.Transmit.{withResent, resentOf, recordedOf}
+use Rattle.outgoing.specs.Ack.{sackedFrom, offsetsFrom, heardOf, withAcked, newlyAckedOf, acknowledgedOf, allAcknowledgedOf, lossOf, fromUnacked, releasedOf, markedOf}
 use Rattle.packet.specs.Sack.{bitOf}
-use Rattle.delivery.specs.Run.{marksOf, heldAcked}
+use Rattle.delivery.specs.Run.{marksOf}
 
 abbrev mark : Packet → Bool
 mark p = not (isUnacked p)

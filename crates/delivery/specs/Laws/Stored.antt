@@ -2,14 +2,14 @@
 use Prim.Native.Nat.{ℕ, zero, suc, _+_, _-_, _^_, _≤_, _<_}
 use native.Mathlib.Omega.{arith}
 use mathlib.Core.Bool.{Bool, true, false, _&&_, _||_, cond}
-use mathlib.Core.List.{List, [], _∷_, _++_}
+use mathlib.Core.List.{List, [], _∷_}
 use mathlib.Core.Option.{Option, none, some}
 use mathlib.Core.Path.{_≡_, _∙_, refl, ap, sym}
 use lib.Dec.{leb, ltb, eqb}
 use lib.ListN.{length, take, drop, getD}
 use lib.Seq.{take-append-seam}
-use borrow.Author.Tests.{leb-true, leb-false, lt-ltb, eqb-true}
-use Rattle.packet.specs.Seq.{plusOf, offsetOf}
+use borrow.Author.Tests.{leb-false, lt-ltb, eqb-true}
+use Rattle.packet.specs.Seq.{offsetOf}
 use Rattle.packet.specs.Sack.{bitOf}
 use Rattle.packet.specs.Laws.Seq.{offset-of-plus}
 use Rattle.packet.specs.declared.seq.SeqNum.{SeqNum}
@@ -20,10 +20,10 @@ use Rattle.recv.specs.declared.Refusal.the-variants.{NotSound, RoomTooSmall}
 use Rattle.recv.specs.declared.Taken.{Taken}
 use Rattle.recv.specs.declared.Writing.{Writing}
 use Rattle.recv.specs.declared.Writing.the-variants.{Stored, AlreadyThere, Refused}
-use Rattle.recv.specs.Table.{waits, waitsAt, thereOf, sackOf}
-use Rattle.recv.specs.State.{tableOf, soundOf, numberedOf, ackOf}
+use Rattle.recv.specs.Table.{waits, thereOf, sackOf}
+use Rattle.recv.specs.State.{tableOf, soundOf, ackOf}
 use Rattle.recv.specs.Receiver.{changed, storedOf, readOf}
-use Rattle.recv.specs.Calls.{payloadsOf, receiverOf, over, ackedOf, ackedRoomOf, writtenOf, takenOf, answerOf, stateOf, readyFor}
+use Rattle.recv.specs.Calls.{payloadsOf, receiverOf, over, writtenOf, takenOf, answerOf, stateOf, readyFor}
 use Rattle.recv.specs.Runs as Recv
 use Rattle.recv.specs.Runs.{Entry, Run, firstStored, orElse}
 use Rattle.recv.specs.Laws.State.{sound-facts}

@@ -7,18 +7,18 @@ use mathlib.Core.Logic.{_⊎_, inl, inr, ⊎-elim}
 use mathlib.Core.Option.{Option, none, some}
 use mathlib.Core.Path.{_≡_, _∙_, refl, ap, ap₂, sym, subst, subst₂}
 use lib.Dec.{leb, ltb, eqb}
-use lib.ListN.{length, take, drop, getD, length-append, length-set, List·getD-append, List·getD-eq-default}
+use lib.ListN.{length, take, getD, length-append, length-set, List·getD-append}
 use lib.Seq.{getD-append-seam, take-length}
 use borrow.Author.Tests.{leb-true, leb-false, ltb-true, ltb-false, eqb-true, eqb-false}
-use Rattle.common.specs.Answer.{done}
 use Rattle.packet.specs.Seq.{offsetOf}
 use Rattle.packet.specs.declared.seq.SeqNum.{SeqNum}
 use Rattle.packet.specs.declared.header.PacketType.{PacketType}
 use Rattle.sent.specs.declared.state.SentPackets.{SentPackets}
-use Rattle.sent.specs.declared.state.Packet.{Packet}
-use Rattle.sent.specs.Tracker.{Tracker, offsetIn, isKept, packetAt, withPacketAt, clockedOf, goneOf}
-use Rattle.sent.specs.Transmit.{withResent, resentOf, recordedOf, firstSent, sentOf}
-use Rattle.sent.specs.State.{trackerOf, transmitAnswer, ackAnswer, timeoutOf, timeoutAnswer, newAnswer}
+use Rattle.outgoing.specs.declared.kept.Packet.{Packet}
+use Rattle.outgoing.specs.Tracker.{Tracker, offsetIn, isKept, packetAt, withPacketAt, clockedOf, goneOf}
+use Rattle.outgoing.specs.Transmit.{withResent, resentOf, recordedOf, firstSent, sentOf}
+use Rattle.outgoing.specs.Sound.{timeoutOf}
+use Rattle.sent.specs.State.{trackerOf, transmitAnswer, ackAnswer, timeoutAnswer, newAnswer}
 use Rattle.recv.specs.declared.Writing.{Writing}
 use Rattle.recv.specs.declared.ReceiveBuffer.{ReceiveBuffer}
 use Rattle.recv.specs.declared.Created.{Created}
@@ -30,7 +30,7 @@ use Rattle.recv.specs.Calls.{answerOf}
 use Rattle.recv.specs.Runs as Recv
 use Rattle.recv.specs.Runs.{firstStored, Run, Entry, freshRun}
 use Rattle.recv.specs.Laws.Runs as RecvLaws
-use Rattle.delivery.specs.Run.{Datagram, Acknowledgement, Event, transmits, goes-out, arrives, reads, builds, hears, times-out, Start, senderAfter, receiverAfter, on, accepted, isFirst, payloads, Earlier, Everywhere, Out, Sent, FirstSent, Answers, Built, Channel, SamePayload, OnlyAccepted, BuiltEarlier, GoesOn, Fresh, Premises, joinedAll, marksOf, heldAcked, Delivered}
+use Rattle.delivery.specs.Run.{Datagram, Acknowledgement, Event, transmits, goes-out, arrives, reads, builds, hears, times-out, Start, senderAfter, receiverAfter, accepted, isFirst, payloads, Earlier, Everywhere, Out, Sent, FirstSent, Answers, Built, Channel, SamePayload, OnlyAccepted, BuiltEarlier, GoesOn, Fresh, Premises, joinedAll, marksOf, heldAcked, Delivered}
 use Rattle.delivery.specs.Laws.Marks.{marks-recorded, marks-resent, Speaks, ackedByOf, ack-stays, ack-grown}
 use Rattle.delivery.specs.Laws.Calls.{transmit-accepted, transmit-refused, Heard, unheard, heard, ack-heard, timeout-stays}
 use Rattle.delivery.specs.Laws.Stored.{IsStored, stored-changed, first-changed, stored-there, next-missing, ack-offset, speaks-stored, write-initial, read-initial}

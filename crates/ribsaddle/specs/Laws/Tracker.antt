@@ -11,15 +11,16 @@ use Rattle.packet.specs.Layout.{typeAnswer}
 use Rattle.packet.specs.declared.seq.SeqNum.{SeqNum}
 use Rattle.packet.specs.declared.header.PacketType.{PacketType}
 use Rattle.congestion.specs.declared.settings.Settings.{Settings}
-use Rattle.congestion.specs.Delays.{noSample}
-use Rattle.sent.specs.declared.lent.Head.{Head}
-use Rattle.sent.specs.declared.state.Packet.{Packet}
+use Rattle.controller.specs.Delays.{noSample}
+use Rattle.sent_lent.specs.declared.head.Head.{Head}
+use Rattle.outgoing.specs.declared.kept.Packet.{Packet}
 use Rattle.sent.specs.declared.state.SentPackets.{SentPackets}
-use Rattle.sent.specs.Lent.{Places, packetsIn, timesOf, sizesOf, marksOf, samplesIn, pairsOf, wholeIn, headOf, headed}
-use Rattle.sent.specs.Laws.LentState.{pairs-back, times-back, sizes-back, marks-back}
-use Rattle.sent.specs.State.{answeredOf, freshOf, newAnswer, stateSoundOf, timeoutAnswer, timeoutOf as timedOutOf, trackerOf, transmitAnswer}
-use Rattle.sent.specs.Tracker.{Tracker as Sent, clockedOf, isKept, noPacket, offsetIn, packetAt, withPacketAt}
-use Rattle.sent.specs.Transmit.{firstSent, recordedOf, sentOf, transmitCheck, transmitOf as sentBy, withResent}
+use Rattle.sent_lent.specs.Lent.{Places, packetsIn, timesOf, sizesOf, marksOf, pairsOf, wholeIn, headOf, headed}
+use Rattle.sent_lent.specs.Laws.LentState.{pairs-back, times-back, sizes-back, marks-back}
+use Rattle.outgoing.specs.Sound.{timeoutOf as timedOutOf}
+use Rattle.sent.specs.State.{answeredOf, freshOf, newAnswer, stateSoundOf, timeoutAnswer, trackerOf, transmitAnswer}
+use Rattle.outgoing.specs.Tracker.{Tracker as Sent, clockedOf, isKept, noPacket, offsetIn, packetAt, withPacketAt}
+use Rattle.outgoing.specs.Transmit.{firstSent, recordedOf, sentOf, transmitCheck, transmitOf as sentBy, withResent}
 use Rattle.ribsaddle.specs.Answer.{numberOf}
 use Rattle.ribsaddle.specs.Tracker.{Sized, Tracking, createdAs, headingAs, headingOf, partsOf, startedAs, startedWith, timeoutOf, trackingOf, transmitAs, transmitOf, wholeOf}
 use Rattle.ribsaddle.specs.declared.tracker.Heading.{Heading}

@@ -5,31 +5,31 @@ use mathlib.Core.List.{List, _++_}
 use Prim.Native.Nat.{ℕ, _+_, _-_, _%_, _≤_}
 use native.Mathlib.Omega.{arith}
 use lib.Dec.{leb, ltb, eqb}
-use lib.ListN.{length, take, drop, set, length-drop}
+use lib.ListN.{length, take, drop, length-drop}
 use lib.Seq.{take-at, drop-append-le}
 use borrow.Author.Tests.{ne-eqb, eqb-true, leb-true, ltb-false}
 use Rattle.common.specs.Answer.{Answer, done, refused, _then_}
 use Rattle.packet.specs.declared.seq.SeqNum.{SeqNum}
 use Rattle.packet.specs.Sack.{maskAnswer}
 use Rattle.congestion.specs.declared.numbers.Numbers.{Numbers}
-use Rattle.congestion.specs.declared.delays.Delays.{Delays}
+use Rattle.controller.specs.declared.delays.Delays.{Delays}
 use Rattle.congestion.specs.Numbers.{acceptedOf}
-use Rattle.congestion.specs.Delays.{listOf, baseOf, takenOf}
+use Rattle.controller.specs.Delays.{listOf, baseOf, takenOf}
 use Rattle.congestion.specs.Laws.Numbers.{both, sound-facts}
-use Rattle.sent.specs.declared.state.Packet.{Packet}
+use Rattle.outgoing.specs.declared.kept.Packet.{Packet}
 use Rattle.sent.specs.declared.state.SentPackets.{SentPackets}
-use Rattle.sent.specs.declared.ack.Ack.{Ack}
-use Rattle.sent.specs.declared.ack.Heard.{Heard}
-use Rattle.sent.specs.Loss.{lossMarkedOf, lossCountedOf}
-use Rattle.sent.specs.Tracker.{Tracker, places, offsetIn, clockAnswer, clockedOf}
-use Rattle.sent.specs.Ack.{heardOf, lossOf, fromUnacked, releasedOf, markedOf, delayAnswer, mayAck, ackCheck, ackOf}
-use Rattle.sent.specs.Hear.{allHeardOf, lossHeardOf}
+use Rattle.outgoing.specs.declared.ack.Ack.{Ack}
+use Rattle.outgoing.specs.declared.ack.Heard.{Heard}
+use Rattle.outgoing.specs.Loss.{lossMarkedOf, lossCountedOf}
+use Rattle.outgoing.specs.Tracker.{Tracker, places, offsetIn, clockAnswer, clockedOf}
+use Rattle.outgoing.specs.Ack.{heardOf, lossOf, fromUnacked, releasedOf, markedOf, delayAnswer, mayAck, ackCheck, ackOf}
+use Rattle.outgoing.specs.Hear.{allHeardOf, lossHeardOf}
 use Rattle.sent.specs.State.{trackerOf, writtenOf, stateSoundOf, ackStateOf, answeredAs, ackAnswer}
-use Rattle.sent.specs.Laws.Checks.{never, then-done, held, not-held}
+use Rattle.outgoing.specs.Laws.Checks.{never, then-done, held, not-held}
 use Rattle.sent.specs.Laws.Kept.{kept-length, written-kept}
 use Rattle.sent.specs.Laws.Sound.{state-facts, state-counts, sound-answered}
 use Rattle.sent.specs.Laws.Transmit.{stateWith}
-use Rattle.sent.specs.Laws.Sample.{taken-again}
+use Rattle.outgoing.specs.Laws.Sample.{taken-again}
 use Rattle.sent.specs.Laws.Loss.{marked-length, loss-none, run-stays}
 use Rattle.sent.specs.Laws.Acknowledge.{trackerAt, all-stays, all-tracks, no-news}
 

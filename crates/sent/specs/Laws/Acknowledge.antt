@@ -10,19 +10,19 @@ use lib.Seq.{getD-take, take-set-lt, drop-set-lt}
 use Rattle.congestion.specs.Laws.Numbers.{both}
 use Rattle.packet.specs.declared.seq.SeqNum.{SeqNum}
 use Rattle.congestion.specs.declared.numbers.Numbers.{Numbers}
-use Rattle.congestion.specs.declared.delays.Delays.{Delays}
+use Rattle.controller.specs.declared.delays.Delays.{Delays}
 use Rattle.congestion.specs.Settings.{latest}
 use Rattle.congestion.specs.Numbers.{soundOf, ackedOf, creditedOf, timedOf, adjustedOf}
-use Rattle.congestion.specs.Delays.{listOf, baseOf, takenOf}
-use Rattle.sent.specs.declared.state.Packet.{Packet}
-use Rattle.sent.specs.declared.ack.Ack.{Ack}
-use Rattle.sent.specs.declared.ack.Heard.{Heard}
-use Rattle.sent.specs.Loss.{isUnacked}
-use Rattle.sent.specs.Tracker.{Tracker, goneOf, isKept, packetAt, noPacket}
-use Rattle.sent.specs.Ack.{withAcked, creditedBy, sampledOf, newlyAckedOf, acknowledgedOf, allAcknowledgedOf}
-use Rattle.sent.specs.Hear.{keepsOf, placeOf, newlyHeardOf, heardStep, allHeardOf}
+use Rattle.controller.specs.Delays.{listOf, baseOf, takenOf}
+use Rattle.outgoing.specs.declared.kept.Packet.{Packet}
+use Rattle.outgoing.specs.declared.ack.Ack.{Ack}
+use Rattle.outgoing.specs.declared.ack.Heard.{Heard}
+use Rattle.outgoing.specs.Loss.{isUnacked}
+use Rattle.outgoing.specs.Tracker.{Tracker, goneOf, isKept, packetAt, noPacket}
+use Rattle.outgoing.specs.Ack.{withAcked, creditedBy, sampledOf, newlyAckedOf, acknowledgedOf, allAcknowledgedOf}
+use Rattle.outgoing.specs.Hear.{keepsOf, placeOf, newlyHeardOf, heardStep, allHeardOf}
 use Rattle.sent.specs.Laws.Kept.{kept-length}
-use Rattle.sent.specs.Laws.Hear.{unkept-same, acked-same, unacked-heard, kept-place}
+use Rattle.outgoing.specs.Laws.Hear.{unkept-same, acked-same, unacked-heard, kept-place}
 
 -- The delay window stays what it is.
 credited-window : (n : Numbers) (base delay len : ℕ) (once : Bool) (p : ℕ) → creditedOf n base delay len once p .«delay_window» ≡ n .«delay_window»

@@ -1,23 +1,24 @@
 -- All packets that were ever sent go with a tracker: those that are no longer kept, which are all acknowledged, and then those that are.
-use mathlib.Core.Path.{_≡_, refl, sym, ap, ap₂, _∙_, subst, subst⁻¹}
+use mathlib.Core.Path.{_≡_, refl, ap, _∙_, subst}
 use mathlib.Core.Bool.{Bool, true, false, _&&_, cond}
 use mathlib.Core.List.{List, [], _∷_, _++_}
-use Prim.Native.Nat.{ℕ, zero, suc, _+_, _-_, _≤_, _<_}
+use Prim.Native.Nat.{ℕ, suc, _+_, _-_}
 use native.Mathlib.Omega.{arith}
 use lib.Dec.{leb}
-use lib.ListN.{length, set, length-set, length-append}
-use Rattle.common.specs.Answer.{Answer, done, refused, _then_}
+use lib.ListN.{length, length-set, length-append}
+use Rattle.common.specs.Answer.{Answer, done, _then_}
 use Rattle.packet.specs.declared.seq.SeqNum.{SeqNum}
 use Rattle.packet.specs.declared.header.PacketType.{PacketType}
 use Rattle.congestion.specs.declared.settings.Settings.{Settings}
 use Rattle.congestion.specs.Settings.{inRangeOf}
-use Rattle.sent.specs.declared.state.Packet.{Packet}
-use Rattle.sent.specs.Loss.{isUnacked, ackedOne, ackedCountOf}
-use Rattle.sent.specs.Tracker.{Tracker, offsetIn, goneOf, isKept, packetAt, withPacketAt, clockedOf}
-use Rattle.sent.specs.Transmit.{transmitCheck, withResent, resentOf, firstSent, recordedOf, sentOf, transmitOf}
-use Rattle.sent.specs.Ack.{ackCheck, heardOf, withAcked, newlyAckedOf, acknowledgedOf, allAcknowledgedOf, lossOf, fromUnacked, releasedOf, markedOf, ackOf}
-use Rattle.sent.specs.State.{trackerOf, freshOf, flyingOf, inFlightOf, timeoutOf}
-use Rattle.sent.specs.Laws.Checks.{then-done}
+use Rattle.outgoing.specs.declared.kept.Packet.{Packet}
+use Rattle.outgoing.specs.Loss.{isUnacked, ackedOne, ackedCountOf}
+use Rattle.outgoing.specs.Tracker.{Tracker, offsetIn, goneOf, isKept, packetAt, withPacketAt, clockedOf}
+use Rattle.outgoing.specs.Transmit.{transmitCheck, withResent, firstSent, recordedOf, sentOf, transmitOf}
+use Rattle.outgoing.specs.Ack.{ackCheck, heardOf, withAcked, newlyAckedOf, acknowledgedOf, allAcknowledgedOf, fromUnacked, releasedOf, markedOf, ackOf}
+use Rattle.outgoing.specs.Sound.{flyingOf, inFlightOf, timeoutOf}
+use Rattle.sent.specs.State.{trackerOf, freshOf}
+use Rattle.outgoing.specs.Laws.Checks.{then-done}
 use Rattle.sent.specs.Laws.Loss.{marked-length}
 use Rattle.sent.specs.Laws.Keeps.{Held, transmit-keeps, ack-keeps, timeout-keeps}
 use Rattle.sent.specs.Laws.Reached.{fresh-held}

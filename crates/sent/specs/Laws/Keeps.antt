@@ -5,7 +5,7 @@ use mathlib.Core.List.{List, [], _∷_}
 use Prim.Native.Nat.{ℕ, _+_, _-_, _≤_, _<_}
 use native.Mathlib.Omega.{arith}
 use lib.Dec.{leb, ltb, eqb}
-use lib.ListN.{length, set, length-set, length-append}
+use lib.ListN.{length, length-set, length-append}
 use borrow.Author.Tests.{le-leb, leb-true, leb-false, ltb-true, ltb-false}
 use Rattle.common.specs.Answer.{Answer, done, refused, _then_}
 use Rattle.packet.specs.declared.seq.SeqNum.{SeqNum}
@@ -16,17 +16,17 @@ use Rattle.packet.specs.Sack.{maskAnswer}
 use Rattle.congestion.specs.declared.numbers.Numbers.{Numbers}
 use Rattle.congestion.specs.Settings.{latest}
 use Rattle.congestion.specs.Numbers.{soundOf, whenSound, freeOf, sentOf, transmittedOf, creditedOf, ackedOf, lostOf}
-use Rattle.congestion.specs.Delays.{delaysSoundOf, listOf, baseOf}
-use Rattle.congestion.specs.Laws.Numbers.{both, Sound, sound-facts, sound-from, accepted-sound, sent-sound, credited-sound, credited-in-flight, lost-sound, timed-out-sound}
-use Rattle.congestion.specs.Laws.Samples.{later-sound, taken-sound}
-use Rattle.sent.specs.declared.state.Packet.{Packet}
-use Rattle.sent.specs.Loss.{isUnacked, ackedCountOf, isNewlyLostOf, lossMarkedOf, lossCountedOf}
-use Rattle.sent.specs.Tracker.{Tracker, places, mostSent, offsetIn, goneOf, isKept, packetAt, withPacketAt, clockedOf, clockAnswer}
-use Rattle.sent.specs.Transmit.{mayTransmit, roomAnswer, transmitCheck, withResent, resentOf, firstSent, recordedOf, transmitOf}
-use Rattle.sent.specs.Transmit as Transmit
-use Rattle.sent.specs.Ack.{delayAnswer, mayAck, ackCheck, heardOf, withAcked, sampledOf, newlyAckedOf, acknowledgedOf, allAcknowledgedOf, lossOf, releasedOf, markedOf, ackOf}
-use Rattle.sent.specs.State.{inFlightOf, timeoutOf}
-use Rattle.sent.specs.Laws.Checks.{then-done, held, not-held, never}
+use Rattle.controller.specs.Delays.{delaysSoundOf, listOf, baseOf}
+use Rattle.congestion.specs.Laws.Numbers.{both, sound-facts, sound-from, accepted-sound, sent-sound, credited-sound, credited-in-flight, lost-sound, timed-out-sound}
+use Rattle.controller.specs.Laws.Samples.{later-sound, taken-sound}
+use Rattle.outgoing.specs.declared.kept.Packet.{Packet}
+use Rattle.outgoing.specs.Loss.{isUnacked, ackedCountOf, isNewlyLostOf, lossMarkedOf, lossCountedOf}
+use Rattle.outgoing.specs.Tracker.{Tracker, places, mostSent, offsetIn, goneOf, isKept, packetAt, withPacketAt, clockedOf, clockAnswer}
+use Rattle.outgoing.specs.Transmit.{mayTransmit, roomAnswer, transmitCheck, withResent, resentOf, firstSent, recordedOf, transmitOf}
+use Rattle.outgoing.specs.Transmit as Transmit
+use Rattle.outgoing.specs.Ack.{delayAnswer, mayAck, ackCheck, heardOf, withAcked, sampledOf, newlyAckedOf, acknowledgedOf, allAcknowledgedOf, lossOf, releasedOf, markedOf, ackOf}
+use Rattle.outgoing.specs.Sound.{inFlightOf, timeoutOf}
+use Rattle.outgoing.specs.Laws.Checks.{then-done, held, not-held, never}
 use Rattle.sent.specs.Laws.Sound.{SoundTracker}
 use Rattle.sent.specs.Laws.Loss.{marked-length}
 use Rattle.sent.specs.Laws.Packets.{Loose, sound-loose, acked-loose, acked-lands, marked-counts, marked-sound, released, sound-later, resent-counts, resent-sound, one-more-counts, one-more-sound}

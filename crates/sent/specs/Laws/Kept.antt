@@ -3,17 +3,18 @@ use mathlib.Core.Path.{_≡_, refl, sym, ap, ap₂, _∙_}
 use mathlib.Core.List.{List, [], _∷_, _++_, append-assoc}
 use Prim.Native.Nat.{ℕ, zero, suc, _+_, _-_, _≤_, _<_}
 use native.Mathlib.Omega.{arith}
-use lib.ListN.{length, take, drop, getD, set, length-take, length-set, length-append, drop-of-length-le, take-append-drop}
+use lib.ListN.{length, take, drop, getD, set, length-set, length-append, drop-of-length-le, take-append-drop}
 use native.Mathlib.Numerals.{add-one}
 use lib.Seq.{drop-cons, length-take-le, getD-take, take-set-lt, drop-set-lt, set-split}
-use Rattle.sent.specs.declared.state.Packet.{Packet}
-use Rattle.sent.specs.Tracker.{noPacket}
-use Rattle.sent.specs.Loss.{isUnacked, ackedOne}
-use Rattle.sent.specs.State.{startsUnacked, writtenOf}
+use Rattle.outgoing.specs.declared.kept.Packet.{Packet}
+use Rattle.outgoing.specs.Tracker.{noPacket}
+use Rattle.outgoing.specs.Loss.{isUnacked, ackedOne}
+use Rattle.outgoing.specs.Sound.{startsUnacked}
+use Rattle.sent.specs.State.{writtenOf}
 use Rattle.sent.specs.declared.state.SentPackets.{SentPackets}
 use Rattle.packet.specs.declared.seq.SeqNum.{SeqNum}
 use Rattle.congestion.specs.declared.numbers.Numbers.{Numbers}
-use Rattle.congestion.specs.declared.delays.Delays.{Delays}
+use Rattle.controller.specs.declared.delays.Delays.{Delays}
 use mathlib.Core.Bool.{Bool, true, false, _||_, cond}
 use lib.Dec.{eqb}
 use borrow.Author.Tests.{ne-eqb}

@@ -1,25 +1,25 @@
 -- Loss, walked from the back; and what the soundness test says of it.
 use mathlib.Core.Path.{_≡_, refl, sym, ap, ap₂, _∙_}
-use mathlib.Core.Bool.{Bool, true, false, _&&_, not, cond}
+use mathlib.Core.Bool.{Bool, true, false, _&&_, cond}
 use mathlib.Core.List.{List, [], _∷_, _++_}
 use Prim.Native.Nat.{ℕ, suc, _+_, _-_, _≤_, _<_}
 use native.Mathlib.Omega.{arith}
 use lib.Dec.{leb, eqb}
-use lib.ListN.{length, take, drop, getD, set, length-take, take-append-drop}
+use lib.ListN.{length, take, drop, getD, set, take-append-drop}
 use lib.Seq.{set-at, getD-at, length-take-le, drop-cons}
 use borrow.Author.Tests.{eqb-true}
 use Rattle.congestion.specs.declared.numbers.Numbers.{Numbers}
 use Rattle.congestion.specs.Numbers.{lostOf, whenSound}
 use Rattle.congestion.specs.Laws.Numbers.{both}
-use Rattle.sent.specs.declared.state.Packet.{Packet}
-use Rattle.sent.specs.declared.ack.Heard.{Heard}
-use Rattle.sent.specs.Loss.{isUnacked, ackedOne, ackedCountOf, isLostOf, isNewlyLostOf, withLost, lossMarkedOf, lossCountedOf}
-use Rattle.sent.specs.Tracker.{noPacket}
-use Rattle.sent.specs.Ack.{fromUnacked}
-use Rattle.sent.specs.Hear.{lossFromOf, lossHeardOf}
-use Rattle.sent.specs.State.{packetSoundOf, packetsSoundOf, startsUnacked}
+use Rattle.outgoing.specs.declared.kept.Packet.{Packet}
+use Rattle.outgoing.specs.declared.ack.Heard.{Heard}
+use Rattle.outgoing.specs.Loss.{isUnacked, ackedOne, ackedCountOf, isLostOf, isNewlyLostOf, withLost, lossMarkedOf, lossCountedOf}
+use Rattle.outgoing.specs.Tracker.{noPacket}
+use Rattle.outgoing.specs.Ack.{fromUnacked}
+use Rattle.outgoing.specs.Hear.{lossFromOf, lossHeardOf}
+use Rattle.outgoing.specs.Sound.{packetSoundOf, packetsSoundOf, startsUnacked}
 use Rattle.sent.specs.Laws.Kept.{kept-behind, kept-end}
-use Rattle.sent.specs.Laws.Move.{front-last}
+use Rattle.outgoing.specs.Laws.Move.{front-last}
 
 pub marked-length : (l : List Packet) → length (lossMarkedOf l) ≡ length l
 unfolding lossMarkedOf

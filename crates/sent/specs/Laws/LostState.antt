@@ -5,21 +5,21 @@ use mathlib.Core.List.{List, [], _++_}
 use Prim.Native.Nat.{ℕ, _+_, _-_, _≤_, _<_}
 use native.Mathlib.Omega.{arith}
 use lib.Dec.{leb, ltb}
-use lib.ListN.{length, take, drop, getD, length-append, List·getD-append, take-append-drop}
+use lib.ListN.{length, take, getD, length-append, List·getD-append, take-append-drop}
 use lib.Seq.{slice, length-slice, getD-append-add, getD-take, getD-drop, length-take-le, take-take}
 use borrow.Author.Tests.{le-leb, lt-leb, leb-true, leb-false, ltb-true, ltb-false}
 use Rattle.common.specs.Answer.{done, refused}
 use Rattle.packet.specs.declared.seq.SeqNum.{SeqNum}
-use Rattle.sent.specs.declared.state.Packet.{Packet}
+use Rattle.outgoing.specs.declared.kept.Packet.{Packet}
 use Rattle.sent.specs.declared.state.SentPackets.{SentPackets}
-use Rattle.sent.specs.declared.answer.LostPacket.{LostPacket}
-use Rattle.sent.specs.Tracker.{places, goneOf, noPacket}
-use Rattle.sent.specs.Lost.{lostPacketOf, lostFrom, ascendingOf, lostListOf, noLost, lostAtOf, lostCountOf, nthLost, wrapPlace, lostPlaceOf}
+use Rattle.outgoing.specs.declared.answer.LostPacket.{LostPacket}
+use Rattle.outgoing.specs.Tracker.{places, goneOf, noPacket}
+use Rattle.outgoing.specs.Lost.{lostPacketOf, lostFrom, ascendingOf, lostListOf, noLost, lostAtOf, lostCountOf, nthLost, wrapPlace, lostPlaceOf}
 use Rattle.sent.specs.State.{trackerOf, stateSoundOf}
-use Rattle.sent.specs.Read.{lostCountIn}
+use Rattle.outgoing.specs.Read.{lostCountIn}
 use Rattle.sent.specs.Laws.Kept.{kept-end}
 use Rattle.sent.specs.Laws.Sound.{state-counts}
-use Rattle.sent.specs.Laws.Lost.{lost-length, nth-within, nth-is, lost-append, Rising, Below, swapped-sorted, sorted-length, rising-offsets, below-offsets}
+use Rattle.outgoing.specs.Laws.Lost.{lost-length, nth-within, nth-is, lost-append, Rising, Below, swapped-sorted, sorted-length, rising-offsets, below-offsets}
 
 module _ (s : SentPackets) (full : length (s .packets) ≡ places) (e : stateSoundOf s ≡ true) (fits : s .initial < 65536) where
   abbrev a : List Packet

@@ -8,12 +8,12 @@ use lib.Dec.{leb, eqb}
 use lib.ListN.{length, getD, set}
 use borrow.Author.Tests.{le-leb, leb-true, eq-eqb, eqb-true, eqb-false}
 use Rattle.congestion.specs.Laws.Numbers.{both, and-of}
-use Rattle.sent.specs.declared.state.Packet.{Packet}
-use Rattle.sent.specs.Loss.{lossThreshold, isUnacked, ackedOne, ackedCountOf, isLostOf, isNewlyLostOf, withLost, lossMarkedOf}
-use Rattle.sent.specs.Tracker.{noPacket}
-use Rattle.sent.specs.Transmit.{withResent}
-use Rattle.sent.specs.Ack.{withAcked, fromUnacked}
-use Rattle.sent.specs.State.{flyingOf, inFlightOf, packetSoundOf, packetsSoundOf, startsUnacked}
+use Rattle.outgoing.specs.declared.kept.Packet.{Packet}
+use Rattle.outgoing.specs.Loss.{lossThreshold, isUnacked, ackedOne, ackedCountOf, isLostOf, isNewlyLostOf, withLost, lossMarkedOf}
+use Rattle.outgoing.specs.Tracker.{noPacket}
+use Rattle.outgoing.specs.Transmit.{withResent}
+use Rattle.outgoing.specs.Ack.{withAcked, fromUnacked}
+use Rattle.outgoing.specs.Sound.{flyingOf, inFlightOf, packetSoundOf, packetsSoundOf, startsUnacked}
 
 -- ---- one packet
 

@@ -3,7 +3,7 @@
 use mathlib.Core.Path.{_≡_, refl, sym, ap, _∙_, subst, subst⁻¹}
 use mathlib.Core.Bool.{Bool, true, cond}
 use mathlib.Core.List.{List, [], _∷_}
-use Prim.Native.Nat.{ℕ, zero, suc, _-_, _≤_, _<_, min}
+use Prim.Native.Nat.{ℕ, zero, suc, _-_, _≤_, _<_}
 use native.Mathlib.Omega.{arith}
 use lib.ListN.{length, take, drop, getD, length-take}
 use lib.Seq.{take-append-seam}
@@ -15,13 +15,14 @@ use Rattle.congestion.specs.declared.numbers.Numbers.{Numbers}
 use Rattle.congestion.specs.Settings.{inRangeOf}
 use Rattle.congestion.specs.Numbers.{minimumOf, soundOf, startOf, noNumbers, newOf}
 use Rattle.congestion.specs.Laws.Numbers.{both, sound-facts, sound-from, settings-facts, start-sound}
-use Rattle.sent.specs.declared.state.Packet.{Packet}
+use Rattle.outgoing.specs.declared.kept.Packet.{Packet}
 use Rattle.sent.specs.declared.state.SentPackets.{SentPackets}
-use Rattle.sent.specs.Loss.{ackedCountOf, isLostOf}
-use Rattle.sent.specs.Tracker.{Tracker, places, offsetIn, clockedOf, noPacket}
-use Rattle.sent.specs.Transmit.{transmitOf}
-use Rattle.sent.specs.Ack.{ackCheck, releasedOf, markedOf, ackOf}
-use Rattle.sent.specs.State.{trackerOf, writtenOf, inFlightOf, packetSoundOf, packetsSoundOf, startsUnacked, stateSoundOf, answeredOf, answeredAs, transmitAnswer, ackStateOf, ackAnswer, timeoutOf, timeoutAnswer, freshOf}
+use Rattle.outgoing.specs.Loss.{ackedCountOf, isLostOf}
+use Rattle.outgoing.specs.Tracker.{Tracker, offsetIn, clockedOf, noPacket}
+use Rattle.outgoing.specs.Transmit.{transmitOf}
+use Rattle.outgoing.specs.Ack.{ackCheck, releasedOf, markedOf, ackOf}
+use Rattle.outgoing.specs.Sound.{inFlightOf, packetSoundOf, packetsSoundOf, startsUnacked, timeoutOf}
+use Rattle.sent.specs.State.{trackerOf, writtenOf, stateSoundOf, answeredOf, answeredAs, transmitAnswer, ackStateOf, ackAnswer, timeoutAnswer, freshOf}
 use Rattle.sent.specs.Laws.Sound.{SoundTracker, state-facts, state-from, sound-answered}
 use Rattle.sent.specs.Laws.Packets.{packet-facts}
 use Rattle.sent.specs.Laws.Keeps.{Held, transmit-keeps, ack-keeps, timeout-keeps}

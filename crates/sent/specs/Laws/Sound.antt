@@ -8,15 +8,16 @@ use lib.Dec.{leb, eqb}
 use lib.ListN.{length, take, getD}
 use borrow.Author.Tests.{le-leb, leb-true, eqb-true, eq-eqb, ne-eqb}
 use Rattle.congestion.specs.Laws.Numbers.{both, and-of}
-use Rattle.sent.specs.Read.{someUnacked}
+use Rattle.outgoing.specs.Read.{someUnacked}
 use Rattle.congestion.specs.Numbers.{soundOf}
-use Rattle.congestion.specs.Delays.{delaysSoundOf}
-use Rattle.sent.specs.declared.state.Packet.{Packet}
+use Rattle.controller.specs.Delays.{delaysSoundOf}
+use Rattle.outgoing.specs.declared.kept.Packet.{Packet}
 use Rattle.sent.specs.declared.state.SentPackets.{SentPackets}
-use Rattle.sent.specs.Loss.{isUnacked}
-use Rattle.sent.specs.Tracker.{Tracker, places, mostSent, noPacket}
+use Rattle.outgoing.specs.Loss.{isUnacked}
+use Rattle.outgoing.specs.Tracker.{Tracker, places, mostSent, noPacket}
 use Rattle.common.specs.Answer.{Answer, done, refused}
-use Rattle.sent.specs.State.{trackerOf, startsUnacked, packetsSoundOf, inFlightOf, trackerSoundOf, stateSoundOf, whenStateSound, readOf}
+use Rattle.outgoing.specs.Sound.{startsUnacked, packetsSoundOf, inFlightOf, trackerSoundOf}
+use Rattle.sent.specs.State.{trackerOf, stateSoundOf, whenStateSound, readOf}
 use Rattle.sent.specs.Laws.Kept.{kept-length, starts-at-first}
 
 -- the test of its parts

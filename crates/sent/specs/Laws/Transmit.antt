@@ -13,14 +13,14 @@ use Rattle.packet.specs.declared.seq.SeqNum.{SeqNum}
 use Rattle.congestion.specs.declared.numbers.Numbers.{Numbers}
 use Rattle.packet.specs.declared.header.PacketType.{PacketType}
 use Rattle.congestion.specs.Numbers.{acceptedOf, transmittedOf, freeOf}
-use Rattle.sent.specs.declared.state.Packet.{Packet}
+use Rattle.outgoing.specs.declared.kept.Packet.{Packet}
 use Rattle.sent.specs.declared.state.SentPackets.{SentPackets}
-use Rattle.sent.specs.Tracker.{Tracker, places, mostSent, offsetIn, clockAnswer, goneOf, isKept, noPacket, packetAt, withPacketAt, clockedOf}
-use Rattle.sent.specs.Transmit.{mayTransmit, roomAnswer, transmitCheck, withResent, resentOf, firstSent, recordedOf, sentOf, transmitOf}
+use Rattle.outgoing.specs.Tracker.{Tracker, places, mostSent, offsetIn, clockAnswer, goneOf, isKept, noPacket, packetAt, withPacketAt, clockedOf}
+use Rattle.outgoing.specs.Transmit.{mayTransmit, roomAnswer, transmitCheck, withResent, resentOf, firstSent, recordedOf, sentOf, transmitOf}
 use Rattle.sent.specs.State.{trackerOf, writtenOf, stateSoundOf, answeredOf, whenStateSound, transmitAnswer}
 use Rattle.sent.specs.Laws.Kept.{written-kept, written-at, written-behind}
 use Rattle.sent.specs.Laws.Sound.{state-counts, unsound-refused, sound-answered}
-use Rattle.sent.specs.Laws.Checks.{then-done, held, not-held}
+use Rattle.outgoing.specs.Laws.Checks.{then-done, held, not-held}
 
 -- the state with its numbers and packets replaced
 abbrev pub stateWith : SentPackets → ℕ → ℕ → Numbers → List Packet → SentPackets

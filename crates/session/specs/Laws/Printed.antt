@@ -13,11 +13,11 @@ use Rattle.congestion.specs.declared.settings.Settings.{Settings}
 use Rattle.congestion.specs.declared.numbers.Numbers.{Numbers}
 use Rattle.congestion.specs.Settings.{inRangeOf}
 use Rattle.congestion.specs.Numbers.{startOf, noNumbers, newOf}
-use Rattle.congestion.specs.Delays.{noDelays}
+use Rattle.controller.specs.Delays.{noDelays}
 use Rattle.congestion.specs.Laws.Numbers.{both}
 use Rattle.sent.specs.declared.state.SentPackets.{SentPackets}
-use Rattle.sent.specs.Tracker.{Tracker}
-use Rattle.sent.specs.Read.{lostCountIn}
+use Rattle.outgoing.specs.Tracker.{Tracker}
+use Rattle.outgoing.specs.Read.{lostCountIn}
 use Rattle.sent.specs.State as State
 use Rattle.sent.specs.State.{trackerOf, newAnswer}
 use Rattle.sent.specs.Laws.Sound.{sound-answered}

@@ -11,7 +11,7 @@ use lib.Seq.{drop-drop, take-all}
 use borrow.Author.Tests.{le-leb, leb-true, eq-eqb, eqb-true}
 use Rattle.common.specs.Answer.{Answer, done, refused}
 use Rattle.congestion.specs.Laws.Numbers.{both, and-of}
-use Rattle.sent.specs.Laws.Checks.{never, held}
+use Rattle.outgoing.specs.Laws.Checks.{never, held}
 use Rattle.session.specs.declared.event.Event.{Event}
 use Rattle.session.specs.declared.check.Layout.{Layout}
 use Rattle.session.specs.Format.{_into_, fieldAt, Section, sectionOf, Sections, sectionsOf, initialIn, settingsIn, eventsOf, allKnown, sackTotal, Session, sessionIn, isWhole, sessionOf}

@@ -12,15 +12,16 @@ use Rattle.packet.specs.declared.seq.SeqNum.{SeqNum}
 use Rattle.packet.specs.declared.header.PacketType.{PacketType}
 use Rattle.packet.specs.Sack.{maskAnswer}
 use Rattle.packet.specs.Layout.{typeOf}
-use Rattle.sent.specs.declared.state.Packet.{Packet}
+use Rattle.outgoing.specs.declared.kept.Packet.{Packet}
 use Rattle.sent.specs.declared.state.SentPackets.{SentPackets}
 use Rattle.congestion.specs.declared.numbers.Numbers.{Numbers}
 use Rattle.congestion.specs.Settings.{latest}
 use Rattle.congestion.specs.Numbers.{freeOf}
-use Rattle.sent.specs.Tracker.{Tracker, places, mostSent, offsetIn, clockedOf, clockAnswer}
-use Rattle.sent.specs.Transmit.{mayTransmit, roomAnswer, transmitCheck, firstSent, sentOf, transmitOf}
-use Rattle.sent.specs.Ack.{delayAnswer, mayAck, ackCheck, markedOf, releasedOf, ackOf}
-use Rattle.sent.specs.State.{trackerOf, writtenOf, answeredOf, answeredAs, transmitAnswer, ackStateOf, ackAnswer, timeoutOf, timeoutAnswer}
+use Rattle.outgoing.specs.Tracker.{Tracker, places, mostSent, offsetIn, clockedOf, clockAnswer}
+use Rattle.outgoing.specs.Transmit.{mayTransmit, roomAnswer, transmitCheck, firstSent, sentOf, transmitOf}
+use Rattle.outgoing.specs.Ack.{delayAnswer, mayAck, ackCheck, markedOf, releasedOf, ackOf}
+use Rattle.outgoing.specs.Sound.{timeoutOf}
+use Rattle.sent.specs.State.{trackerOf, writtenOf, answeredOf, answeredAs, transmitAnswer, ackStateOf, ackAnswer, timeoutAnswer}
 use Rattle.sent.specs.Laws.Sound.{sound-answered}
 use Rattle.sent.specs.Laws.Reached.{Reached, transmit, ack, timeout, reached-sound}
 use Rattle.session.specs.declared.event.Event.{Event}

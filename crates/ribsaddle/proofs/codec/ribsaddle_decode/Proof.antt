@@ -3,9 +3,9 @@ use mir.Syntax.{w8, w32}
 use Rattle.ribsaddle.specs.Codec.{readingOf}
 use Rattle.ribsaddle.proofs.codec.read.Symbol as callee
 use Rattle.ribsaddle.proofs.codec.read.Met as callee-thm
-use Rattle.ribsaddle.proofs.Behind.{uint}
+use Rattle.walks.specs.Behind.{uint}
 use Rattle.ribsaddle.proofs.States.{packet-fields, reading}
-use Rattle.ribsaddle.proofs.Mut_s as walk
+use Rattle.walks.specs.Mut_s as walk
 use Rattle.ribsaddle.proofs.codec.ribsaddle_decode.Key as key
 use Rattle.ribsaddle.proofs.codec.ribsaddle_decode.Statement as stated
 use Rattle.ribsaddle.proofs.codec.ribsaddle_decode.Code as code

@@ -4,9 +4,9 @@ use Rattle.ribsaddle.specs.Answer.{numberOf}
 use Rattle.ribsaddle.specs.Codec.{writingOf, writingRoomOf, writingSizeOf}
 use Rattle.ribsaddle.proofs.codec.write.Symbol as callee
 use Rattle.ribsaddle.proofs.codec.write.Met as callee-thm
-use Rattle.ribsaddle.proofs.Behind.{uint}
+use Rattle.walks.specs.Behind.{uint}
 use Rattle.ribsaddle.proofs.States.{header-fields}
-use Rattle.ribsaddle.proofs.Ref_ssmr as walk
+use Rattle.walks.specs.Ref_ssmr as walk
 use Rattle.ribsaddle.proofs.codec.ribsaddle_encode.Key as key
 use Rattle.ribsaddle.proofs.codec.ribsaddle_encode.Statement as stated
 use Rattle.ribsaddle.proofs.codec.ribsaddle_encode.Code as code

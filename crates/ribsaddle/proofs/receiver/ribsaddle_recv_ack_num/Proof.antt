@@ -6,9 +6,9 @@ use Rattle.ribsaddle.specs.Receiver.{numberAnswer}
 use Rattle.recv.specs.State.{numberedOf, ackOf}
 use Rattle.ribsaddle.proofs.receiver.ack_num.Symbol as callee
 use Rattle.ribsaddle.proofs.receiver.ack_num.Met as callee-thm
-use Rattle.ribsaddle.proofs.Behind.{uint}
+use Rattle.walks.specs.Behind.{uint}
 use Rattle.ribsaddle.proofs.States.{receiver}
-use Rattle.ribsaddle.proofs.Ref_r as walk
+use Rattle.walks.specs.Ref_r as walk
 use Rattle.ribsaddle.proofs.receiver.ribsaddle_recv_ack_num.Key as key
 use Rattle.ribsaddle.proofs.receiver.ribsaddle_recv_ack_num.Statement as stated
 use Rattle.ribsaddle.proofs.receiver.ribsaddle_recv_ack_num.Code as code

@@ -6,9 +6,9 @@ use Rattle.recv.specs.State.{countedOf, tableOf}
 use Rattle.recv.specs.Table.{freeOf}
 use Rattle.ribsaddle.proofs.receiver.available.Symbol as callee
 use Rattle.ribsaddle.proofs.receiver.available.Met as callee-thm
-use Rattle.ribsaddle.proofs.Behind.{uint}
+use Rattle.walks.specs.Behind.{uint}
 use Rattle.ribsaddle.proofs.States.{receiver}
-use Rattle.ribsaddle.proofs.Ref_r as walk
+use Rattle.walks.specs.Ref_r as walk
 use Rattle.ribsaddle.proofs.receiver.ribsaddle_recv_available.Key as key
 use Rattle.ribsaddle.proofs.receiver.ribsaddle_recv_available.Statement as stated
 use Rattle.ribsaddle.proofs.receiver.ribsaddle_recv_available.Code as code

@@ -5,9 +5,9 @@ use Rattle.ribsaddle.specs.Receiver.{countAnswer}
 use Rattle.recv.specs.State.{countedOf}
 use Rattle.ribsaddle.proofs.receiver.count.Symbol as callee
 use Rattle.ribsaddle.proofs.receiver.count.Met as callee-thm
-use Rattle.ribsaddle.proofs.Behind.{uint}
+use Rattle.walks.specs.Behind.{uint}
 use Rattle.ribsaddle.proofs.States.{receiver}
-use Rattle.ribsaddle.proofs.Ref_r as walk
+use Rattle.walks.specs.Ref_r as walk
 use Rattle.ribsaddle.proofs.receiver.ribsaddle_recv_count.Key as key
 use Rattle.ribsaddle.proofs.receiver.ribsaddle_recv_count.Statement as stated
 use Rattle.ribsaddle.proofs.receiver.ribsaddle_recv_count.Code as code

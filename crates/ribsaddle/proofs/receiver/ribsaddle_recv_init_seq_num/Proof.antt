@@ -6,9 +6,9 @@ use Rattle.ribsaddle.specs.Receiver.{numberAnswer}
 use Rattle.recv.specs.State.{numberedOf}
 use Rattle.ribsaddle.proofs.receiver.init_seq_num.Symbol as callee
 use Rattle.ribsaddle.proofs.receiver.init_seq_num.Met as callee-thm
-use Rattle.ribsaddle.proofs.Behind.{uint}
+use Rattle.walks.specs.Behind.{uint}
 use Rattle.ribsaddle.proofs.States.{receiver}
-use Rattle.ribsaddle.proofs.Ref_r as walk
+use Rattle.walks.specs.Ref_r as walk
 use Rattle.ribsaddle.proofs.receiver.ribsaddle_recv_init_seq_num.Key as key
 use Rattle.ribsaddle.proofs.receiver.ribsaddle_recv_init_seq_num.Statement as stated
 use Rattle.ribsaddle.proofs.receiver.ribsaddle_recv_init_seq_num.Code as code

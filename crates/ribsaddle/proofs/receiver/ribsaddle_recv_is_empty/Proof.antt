@@ -5,9 +5,9 @@ use Rattle.ribsaddle.specs.Receiver.{truthAnswer}
 use Rattle.recv.specs.State.{toldOf, emptyOf}
 use Rattle.ribsaddle.proofs.receiver.is_empty.Symbol as callee
 use Rattle.ribsaddle.proofs.receiver.is_empty.Met as callee-thm
-use Rattle.ribsaddle.proofs.Behind.{uint}
+use Rattle.walks.specs.Behind.{uint}
 use Rattle.ribsaddle.proofs.States.{receiver}
-use Rattle.ribsaddle.proofs.Ref_r as walk
+use Rattle.walks.specs.Ref_r as walk
 use Rattle.ribsaddle.proofs.receiver.ribsaddle_recv_is_empty.Key as key
 use Rattle.ribsaddle.proofs.receiver.ribsaddle_recv_is_empty.Statement as stated
 use Rattle.ribsaddle.proofs.receiver.ribsaddle_recv_is_empty.Code as code

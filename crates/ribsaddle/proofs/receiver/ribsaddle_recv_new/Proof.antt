@@ -3,9 +3,9 @@ use mir.Syntax.{w16, w32, w64}
 use Rattle.ribsaddle.specs.Receiver.{newOf}
 use Rattle.ribsaddle.proofs.receiver.create.Symbol as callee
 use Rattle.ribsaddle.proofs.receiver.create.Met as callee-thm
-use Rattle.ribsaddle.proofs.Behind.{uint}
+use Rattle.walks.specs.Behind.{uint}
 use Rattle.ribsaddle.proofs.States.{receiver, receiving}
-use Rattle.ribsaddle.proofs.Mut_nn as walk
+use Rattle.walks.specs.Mut_nn as walk
 use Rattle.ribsaddle.proofs.receiver.ribsaddle_recv_new.Key as key
 use Rattle.ribsaddle.proofs.receiver.ribsaddle_recv_new.Statement as stated
 use Rattle.ribsaddle.proofs.receiver.ribsaddle_recv_new.Code as code

@@ -8,9 +8,9 @@ use Rattle.ribsaddle.specs.Receiver.{readOf, takenCountOf}
 use Rattle.recv.specs.Calls.{takenRoomOf, takenOutOf}
 use Rattle.ribsaddle.proofs.receiver.read.Symbol as callee
 use Rattle.ribsaddle.proofs.receiver.read.Met as callee-thm
-use Rattle.ribsaddle.proofs.Behind.{uint}
+use Rattle.walks.specs.Behind.{uint}
 use Rattle.ribsaddle.proofs.States.{counting, counts, next-is, receiver-lawful, receiver-name, receiver-one, receiver-to, stored, table}
-use Rattle.ribsaddle.proofs.Part_vl_mmr as walk
+use Rattle.walks.specs.Part_vl_mmr as walk
 use Rattle.ribsaddle.proofs.receiver.ribsaddle_recv_read.Key as key
 use Rattle.ribsaddle.proofs.receiver.ribsaddle_recv_read.Statement as stated
 use Rattle.ribsaddle.proofs.receiver.ribsaddle_recv_read.Code as code

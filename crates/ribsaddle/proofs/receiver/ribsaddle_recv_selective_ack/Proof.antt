@@ -5,9 +5,9 @@ use Rattle.ribsaddle.specs.Receiver.{sackAnswer}
 use Rattle.recv.specs.Calls.{ackedRoomOf}
 use Rattle.ribsaddle.proofs.receiver.selective_ack.Symbol as callee
 use Rattle.ribsaddle.proofs.receiver.selective_ack.Met as callee-thm
-use Rattle.ribsaddle.proofs.Behind.{uint}
+use Rattle.walks.specs.Behind.{uint}
 use Rattle.ribsaddle.proofs.States.{receiver}
-use Rattle.ribsaddle.proofs.Ref_mr as walk
+use Rattle.walks.specs.Ref_mr as walk
 use Rattle.ribsaddle.proofs.receiver.ribsaddle_recv_selective_ack.Key as key
 use Rattle.ribsaddle.proofs.receiver.ribsaddle_recv_selective_ack.Statement as stated
 use Rattle.ribsaddle.proofs.receiver.ribsaddle_recv_selective_ack.Code as code

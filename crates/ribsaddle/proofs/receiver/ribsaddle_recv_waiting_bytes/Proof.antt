@@ -6,9 +6,9 @@ use Rattle.recv.specs.State.{countedOf, tableOf}
 use Rattle.recv.specs.Table.{bytesIn}
 use Rattle.ribsaddle.proofs.receiver.waiting_bytes.Symbol as callee
 use Rattle.ribsaddle.proofs.receiver.waiting_bytes.Met as callee-thm
-use Rattle.ribsaddle.proofs.Behind.{uint}
+use Rattle.walks.specs.Behind.{uint}
 use Rattle.ribsaddle.proofs.States.{receiver}
-use Rattle.ribsaddle.proofs.Ref_r as walk
+use Rattle.walks.specs.Ref_r as walk
 use Rattle.ribsaddle.proofs.receiver.ribsaddle_recv_waiting_bytes.Key as key
 use Rattle.ribsaddle.proofs.receiver.ribsaddle_recv_waiting_bytes.Statement as stated
 use Rattle.ribsaddle.proofs.receiver.ribsaddle_recv_waiting_bytes.Code as code

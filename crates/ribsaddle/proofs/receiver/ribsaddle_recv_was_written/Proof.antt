@@ -5,9 +5,9 @@ use Rattle.ribsaddle.specs.Receiver.{truthAnswer}
 use Rattle.recv.specs.State.{toldOf, writtenBefore}
 use Rattle.ribsaddle.proofs.receiver.was_written.Symbol as callee
 use Rattle.ribsaddle.proofs.receiver.was_written.Met as callee-thm
-use Rattle.ribsaddle.proofs.Behind.{uint}
+use Rattle.walks.specs.Behind.{uint}
 use Rattle.ribsaddle.proofs.States.{receiver}
-use Rattle.ribsaddle.proofs.Ref_nr as walk
+use Rattle.walks.specs.Ref_nr as walk
 use Rattle.ribsaddle.proofs.receiver.ribsaddle_recv_was_written.Key as key
 use Rattle.ribsaddle.proofs.receiver.ribsaddle_recv_was_written.Statement as stated
 use Rattle.ribsaddle.proofs.receiver.ribsaddle_recv_was_written.Code as code

@@ -7,9 +7,9 @@ use Rattle.ribsaddle.specs.Receiver.{writeOf}
 use Rattle.recv.specs.Calls.{writtenRoomOf}
 use Rattle.ribsaddle.proofs.receiver.write.Symbol as callee
 use Rattle.ribsaddle.proofs.receiver.write.Met as callee-thm
-use Rattle.ribsaddle.proofs.Behind.{uint}
+use Rattle.walks.specs.Behind.{uint}
 use Rattle.ribsaddle.proofs.States.{counting, counts, next-is, receiver-lawful, receiver-name, receiver-one, receiver-to, stored, table}
-use Rattle.ribsaddle.proofs.Part_vl_mns as walk
+use Rattle.walks.specs.Part_vl_mns as walk
 use Rattle.ribsaddle.proofs.receiver.ribsaddle_recv_write.Key as key
 use Rattle.ribsaddle.proofs.receiver.ribsaddle_recv_write.Statement as stated
 use Rattle.ribsaddle.proofs.receiver.ribsaddle_recv_write.Code as code

@@ -1,7 +1,7 @@
 -- `ribsaddle::told::tell_lost` meets its contract. By what is told.
 use mathlib.Core.Path.{_∙_, ap, sym}
-use Rattle.sent.specs.declared.answer.LostTold.{LostTold}
-use Rattle.sent.specs.Answers.{lostTold}
+use Rattle.outgoing.specs.declared.answer.LostTold.{LostTold}
+use Rattle.outgoing.specs.Answers.{lostTold}
 use Rattle.ribsaddle.specs.Answer.{numberOf, partOr}
 use Rattle.ribsaddle.specs.Tracker.{lostNumberOf, lostTypeOf, lostTagOf}
 use borrow.Author.Needs.{needs}

@@ -1,8 +1,8 @@
 -- `ribsaddle::tracker::created` meets its contract. By the answer.
 use mathlib.Core.Path.{_∙_, ap, sym}
 use Prim.Native.Nat.{ℕ}
-use Rattle.sent.specs.declared.answer.Outcome.{Outcome}
-use Rattle.sent.specs.Answers.{outcome}
+use Rattle.outgoing.specs.declared.answer.Outcome.{Outcome}
+use Rattle.outgoing.specs.Answers.{outcome}
 use Rattle.ribsaddle.specs.Tracker.{startedAs}
 use Rattle.ribsaddle.specs.declared.tracker.Starting.{Starting}
 use Rattle.ribsaddle.specs.declared.tracker.Tracker.{Tracker}

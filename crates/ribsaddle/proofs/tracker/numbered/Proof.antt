@@ -1,7 +1,7 @@
 -- `ribsaddle::tracker::numbered` meets its contract. The answer by its number, beside the head.
 use mathlib.Core.Path.{ap}
 use Prim.Native.Nat.{ℕ}
-use Rattle.sent.specs.declared.lent.Head.{Head}
+use Rattle.sent_lent.specs.declared.head.Head.{Head}
 use Rattle.ribsaddle.specs.declared.tracker.Heading.{Heading}
 use borrow.Author.Needs.{needs}
 use Rattle.ribsaddle.proofs.tracker.numbered.Statement.{statement}

@@ -3,12 +3,12 @@ use mathlib.Core.Path.{refl}
 use mir.Syntax.{w8, w16, w32, w64}
 use Rattle.ribsaddle.specs.declared.tracker.Tracker.{Tracker}
 use Rattle.ribsaddle.specs.Tracker.{wholeOf, partsOf, headingOf, ackOf}
-use Rattle.sent.specs.Lent.{wholeIn, pairsOf, timesOf, sizesOf, marksOf}
+use Rattle.sent_lent.specs.Lent.{wholeIn, pairsOf, timesOf, sizesOf, marksOf}
 use Rattle.ribsaddle.proofs.tracker.ack.Symbol as callee
 use Rattle.ribsaddle.proofs.tracker.ack.Met as callee-thm
-use Rattle.ribsaddle.proofs.Behind.{uint}
+use Rattle.walks.specs.Behind.{uint}
 use Rattle.ribsaddle.proofs.States.{head, heading, marks, samples, sent-next, sent-stored, sizes, times, tracker-lawful, tracker-name, tracker-one, tracker-to}
-use Rattle.ribsaddle.proofs.Part_vllll_nsnn as walk
+use Rattle.walks.specs.Part_vllll_nsnn as walk
 use Rattle.ribsaddle.proofs.tracker.ribsaddle_sent_ack.Key as key
 use Rattle.ribsaddle.proofs.tracker.ribsaddle_sent_ack.Statement as stated
 use Rattle.ribsaddle.proofs.tracker.ribsaddle_sent_ack.Code as code

@@ -3,12 +3,12 @@ use mir.Syntax.{w32, w64}
 use Rattle.ribsaddle.specs.Answer.{numberOf, partOr, bitOf}
 use Rattle.ribsaddle.specs.Tracker.{wholeOf}
 use Rattle.sent.specs.State.{readOf}
-use Rattle.sent.specs.Read.{hasLostIn}
+use Rattle.outgoing.specs.Read.{hasLostIn}
 use Rattle.ribsaddle.proofs.tracker.has_lost.Symbol as callee
 use Rattle.ribsaddle.proofs.tracker.has_lost.Met as callee-thm
-use Rattle.ribsaddle.proofs.Behind.{uint}
+use Rattle.walks.specs.Behind.{uint}
 use Rattle.ribsaddle.proofs.States.{tracker}
-use Rattle.ribsaddle.proofs.Ref_r as walk
+use Rattle.walks.specs.Ref_r as walk
 use Rattle.ribsaddle.proofs.tracker.ribsaddle_sent_has_lost.Key as key
 use Rattle.ribsaddle.proofs.tracker.ribsaddle_sent_has_lost.Statement as stated
 use Rattle.ribsaddle.proofs.tracker.ribsaddle_sent_has_lost.Code as code

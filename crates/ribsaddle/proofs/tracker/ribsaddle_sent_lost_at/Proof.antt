@@ -4,9 +4,9 @@ use Rattle.ribsaddle.specs.Answer.{numberOf, partOr}
 use Rattle.ribsaddle.specs.Tracker.{wholeOf, lostNumberOf, lostTypeOf, lostTagOf, lostAnswer}
 use Rattle.ribsaddle.proofs.tracker.lost_at.Symbol as callee
 use Rattle.ribsaddle.proofs.tracker.lost_at.Met as callee-thm
-use Rattle.ribsaddle.proofs.Behind.{uint}
+use Rattle.walks.specs.Behind.{uint}
 use Rattle.ribsaddle.proofs.States.{tracker}
-use Rattle.ribsaddle.proofs.Ref_nrrr as walk
+use Rattle.walks.specs.Ref_nrrr as walk
 use Rattle.ribsaddle.proofs.tracker.ribsaddle_sent_lost_at.Key as key
 use Rattle.ribsaddle.proofs.tracker.ribsaddle_sent_lost_at.Statement as stated
 use Rattle.ribsaddle.proofs.tracker.ribsaddle_sent_lost_at.Code as code

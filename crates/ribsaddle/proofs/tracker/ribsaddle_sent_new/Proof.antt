@@ -4,9 +4,9 @@ use lib.Ieee.{binary64}
 use Rattle.ribsaddle.specs.Tracker.{newOf}
 use Rattle.ribsaddle.proofs.tracker.create.Symbol as callee
 use Rattle.ribsaddle.proofs.tracker.create.Met as callee-thm
-use Rattle.ribsaddle.proofs.Behind.{float, uint}
+use Rattle.walks.specs.Behind.{float, uint}
 use Rattle.ribsaddle.proofs.States.{tracker, starting}
-use Rattle.ribsaddle.proofs.Mut_nnnnnnnn as walk
+use Rattle.walks.specs.Mut_nnnnnnnn as walk
 use Rattle.ribsaddle.proofs.tracker.ribsaddle_sent_new.Key as key
 use Rattle.ribsaddle.proofs.tracker.ribsaddle_sent_new.Statement as stated
 use Rattle.ribsaddle.proofs.tracker.ribsaddle_sent_new.Code as code

@@ -3,12 +3,12 @@ use mir.Syntax.{w32, w64}
 use Rattle.ribsaddle.specs.Answer.{numberOf, partOr}
 use Rattle.ribsaddle.specs.Tracker.{wholeOf, seqOf}
 use Rattle.sent.specs.State.{readOf}
-use Rattle.sent.specs.Read.{nextSeqNumIn}
+use Rattle.outgoing.specs.Read.{nextSeqNumIn}
 use Rattle.ribsaddle.proofs.tracker.next_seq_num.Symbol as callee
 use Rattle.ribsaddle.proofs.tracker.next_seq_num.Met as callee-thm
-use Rattle.ribsaddle.proofs.Behind.{uint}
+use Rattle.walks.specs.Behind.{uint}
 use Rattle.ribsaddle.proofs.States.{tracker}
-use Rattle.ribsaddle.proofs.Ref_r as walk
+use Rattle.walks.specs.Ref_r as walk
 use Rattle.ribsaddle.proofs.tracker.ribsaddle_sent_next_seq_num.Key as key
 use Rattle.ribsaddle.proofs.tracker.ribsaddle_sent_next_seq_num.Statement as stated
 use Rattle.ribsaddle.proofs.tracker.ribsaddle_sent_next_seq_num.Code as code

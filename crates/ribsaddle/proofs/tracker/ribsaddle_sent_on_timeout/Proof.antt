@@ -3,12 +3,12 @@ use mathlib.Core.Path.{refl}
 use mir.Syntax.{w32}
 use Rattle.ribsaddle.specs.declared.tracker.Tracker.{Tracker}
 use Rattle.ribsaddle.specs.Tracker.{wholeOf, partsOf, Sized, headingOf, timeoutOf}
-use Rattle.sent.specs.Lent.{wholeIn, pairsOf, timesOf, sizesOf, marksOf}
+use Rattle.sent_lent.specs.Lent.{wholeIn, pairsOf, timesOf, sizesOf, marksOf}
 use Rattle.ribsaddle.proofs.tracker.time_out.Symbol as callee
 use Rattle.ribsaddle.proofs.tracker.time_out.Met as callee-thm
-use Rattle.ribsaddle.proofs.Behind.{uint}
+use Rattle.walks.specs.Behind.{uint}
 use Rattle.ribsaddle.proofs.States.{head, heading, marks, samples, sent-next, sent-stored, sized, sizes, times, tracker-lawful, tracker-name, tracker-one, tracker-to}
-use Rattle.ribsaddle.proofs.PartR_vllll_0 as walk
+use Rattle.walks.specs.PartR_vllll_0 as walk
 use Rattle.ribsaddle.proofs.tracker.ribsaddle_sent_on_timeout.Key as key
 use Rattle.ribsaddle.proofs.tracker.ribsaddle_sent_on_timeout.Statement as stated
 use Rattle.ribsaddle.proofs.tracker.ribsaddle_sent_on_timeout.Code as code

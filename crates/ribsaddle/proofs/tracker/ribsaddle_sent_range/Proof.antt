@@ -3,12 +3,12 @@ use mir.Syntax.{w32, w64}
 use Rattle.ribsaddle.specs.Answer.{numberOf, partOr}
 use Rattle.ribsaddle.specs.Tracker.{wholeOf, startOf, endOf}
 use Rattle.sent.specs.State.{readOf}
-use Rattle.sent.specs.Read.{seqNumRangeIn}
+use Rattle.outgoing.specs.Read.{seqNumRangeIn}
 use Rattle.ribsaddle.proofs.tracker.range.Symbol as callee
 use Rattle.ribsaddle.proofs.tracker.range.Met as callee-thm
-use Rattle.ribsaddle.proofs.Behind.{uint}
+use Rattle.walks.specs.Behind.{uint}
 use Rattle.ribsaddle.proofs.States.{tracker}
-use Rattle.ribsaddle.proofs.Ref_rr as walk
+use Rattle.walks.specs.Ref_rr as walk
 use Rattle.ribsaddle.proofs.tracker.ribsaddle_sent_range.Key as key
 use Rattle.ribsaddle.proofs.tracker.ribsaddle_sent_range.Statement as stated
 use Rattle.ribsaddle.proofs.tracker.ribsaddle_sent_range.Code as code

@@ -3,9 +3,9 @@ use mir.Syntax.{w32}
 use Rattle.ribsaddle.specs.Tracker.{wholeOf, soundNumberOf}
 use Rattle.ribsaddle.proofs.tracker.soundness.Symbol as callee
 use Rattle.ribsaddle.proofs.tracker.soundness.Met as callee-thm
-use Rattle.ribsaddle.proofs.Behind.{uint}
+use Rattle.walks.specs.Behind.{uint}
 use Rattle.ribsaddle.proofs.States.{tracker}
-use Rattle.ribsaddle.proofs.Ref_0 as walk
+use Rattle.walks.specs.Ref_0 as walk
 use Rattle.ribsaddle.proofs.tracker.ribsaddle_sent_sound.Key as key
 use Rattle.ribsaddle.proofs.tracker.ribsaddle_sent_sound.Statement as stated
 use Rattle.ribsaddle.proofs.tracker.ribsaddle_sent_sound.Code as code

@@ -3,12 +3,12 @@ use mathlib.Core.Path.{refl}
 use mir.Syntax.{w8, w16, w32, w64}
 use Rattle.ribsaddle.specs.declared.tracker.Tracker.{Tracker}
 use Rattle.ribsaddle.specs.Tracker.{wholeOf, partsOf, Sized, headingOf, transmitOf}
-use Rattle.sent.specs.Lent.{wholeIn, pairsOf, timesOf, sizesOf, marksOf}
+use Rattle.sent_lent.specs.Lent.{wholeIn, pairsOf, timesOf, sizesOf, marksOf}
 use Rattle.ribsaddle.proofs.tracker.transmit.Symbol as callee
 use Rattle.ribsaddle.proofs.tracker.transmit.Met as callee-thm
-use Rattle.ribsaddle.proofs.Behind.{uint}
+use Rattle.walks.specs.Behind.{uint}
 use Rattle.ribsaddle.proofs.States.{head, heading, marks, samples, sent-next, sent-stored, sized, sizes, times, tracker-lawful, tracker-name, tracker-one, tracker-to}
-use Rattle.ribsaddle.proofs.PartR_vllll_nnnnn as walk
+use Rattle.walks.specs.PartR_vllll_nnnnn as walk
 use Rattle.ribsaddle.proofs.tracker.ribsaddle_sent_transmit.Key as key
 use Rattle.ribsaddle.proofs.tracker.ribsaddle_sent_transmit.Statement as stated
 use Rattle.ribsaddle.proofs.tracker.ribsaddle_sent_transmit.Code as code

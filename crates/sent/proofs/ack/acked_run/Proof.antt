@@ -6,12 +6,11 @@ use native.Mathlib.Numerals.{add-one}
 use native.Mathlib.Omega.{arith}
 use lib.ListN.{length, take, drop, getD}
 use borrow.Author.Needs.{needs}
-use Rattle.sent.specs.declared.state.Packet.{Packet}
-use Rattle.sent.specs.Tracker.{noPacket}
+use Rattle.outgoing.specs.Tracker.{noPacket}
 use lib.ListN.{drop-of-length-le}
 use lib.Seq.{getD-take}
-use Rattle.sent.specs.Loss.{isUnacked}
-use Rattle.sent.specs.Ack.{fromUnacked}
+use Rattle.outgoing.specs.Loss.{isUnacked}
+use Rattle.outgoing.specs.Ack.{fromUnacked}
 use Rattle.sent.specs.Laws.Kept.{kept-length}
 use Rattle.sent.specs.Laws.Loss.{run-stops, run-goes-on}
 use Rattle.sent.proofs.ack.acked_run.Statement.{statement}

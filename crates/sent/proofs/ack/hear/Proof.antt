@@ -5,9 +5,8 @@ use Prim.Native.Nat.{ℕ, _≤_, _+_, _*_}
 use native.Mathlib.Omega.{arith}
 use lib.ListN.{length}
 use borrow.Author.Needs.{needs}
-use Rattle.sent.specs.declared.ack.Run.{Run}
-use Rattle.sent.specs.Hear.{unheardOf, allHeardOf, heardAt, runOf}
-use Rattle.sent.specs.Laws.Hear.{runs-heard}
+use Rattle.outgoing.specs.Hear.{unheardOf, allHeardOf, heardAt, runOf}
+use Rattle.outgoing.specs.Laws.Hear.{runs-heard}
 use Rattle.sent.proofs.ack.hear.Statement.{statement}
 use Rattle.sent.proofs.ack.hear.Tie as tie
 
@@ -20,20 +19,21 @@ bits-few c = omega (arith, bits-all c, c .before .before .pre .5)
 bit-count-requires : tie.Need-bit-count-requires
 bit-count-requires c κs = search needs
 
-add-t8 : tie.Need-add-t8
-add-t8 c = omega (arith, bits-few c)
+cast-bits : tie.Need-cast-bits
+cast-bits c = omega (arith, bits-few c)
 
-add-t8-2 : tie.Need-add-t8-2
-add-t8-2 c = omega (arith, bits-few c)
+add-t9 : tie.Need-add-t9
+add-t9 c = omega (arith, bits-few c)
+
+add-t9-2 : tie.Need-add-t9-2
+add-t9-2 c = omega (arith, bits-few c)
 
 earlier-count-requires : tie.Need-earlier-count-requires
-earlier-count-requires c κs = c .before .before .pre .3
+earlier-count-requires c κs = search needs
 
 hear-runs-requires : tie.Need-hear-runs-requires
 hear-runs-requires c κs = let p = c .before .before .before .pre in
-    let few = bits-few (c .before) in
-    let e = c .earlier-count .ensures in
-    (p .0, p .1, p .2, p .4, few, omega (arith, few, e, p .4, p .2), omega (arith, few, e, p .4, p .2))
+    (p .1, omega (arith, bits-few (c .before), c .earlier-count .ensures, p .4, p .2))
 
 returns : tie.Need-returns
 returns c = let a = c .before .before .before .before .args in
@@ -48,8 +48,9 @@ hear-spec =
     tie.close
     (tie.spec
     bit-count-requires
-    add-t8
-    add-t8-2
+    cast-bits
+    add-t9
+    add-t9-2
     earlier-count-requires
     hear-runs-requires
     returns)

@@ -1,18 +1,17 @@
 -- `lose` meets its contract: from `i` on losses are marked and counted, before it nothing is changed, and `later` of those from `i` on are acknowledged.
 use mathlib.Core.Path.{_≡_, sym, ap, ap₂, _∙_}
-use mathlib.Core.Bool.{true, false}
 use Prim.Native.Nat.{ℕ, _≤_, _-_, _+_}
 use native.Mathlib.Omega.{arith}
 use lib.ListN.{length, length-map, take, drop, getD, set}
 use borrow.Author.Needs.{needs}
 use borrow.Author.Tests.{not-true, not-false}
-use Rattle.sent.specs.declared.state.Packet.{Packet}
-use Rattle.sent.specs.Tracker.{noPacket}
+use Rattle.outgoing.specs.declared.kept.Packet.{Packet}
+use Rattle.outgoing.specs.Tracker.{noPacket}
 use Rattle.congestion.specs.declared.numbers.Numbers.{Numbers}
 use Rattle.congestion.specs.Numbers.{lostOf, whenSound}
-use Rattle.sent.specs.declared.ack.Heard.{Heard}
-use Rattle.sent.specs.Loss.{ackedOne, ackedCountOf, isNewlyLostOf, withLost}
-use Rattle.sent.specs.Hear.{lossFromOf}
+use Rattle.outgoing.specs.declared.ack.Heard.{Heard}
+use Rattle.outgoing.specs.Loss.{ackedOne, ackedCountOf, isNewlyLostOf, withLost}
+use Rattle.outgoing.specs.Hear.{lossFromOf}
 use Rattle.sent.specs.Laws.Kept.{kept-end, acked-one-small}
 use Rattle.sent.specs.Laws.Loss.{loss-starts, loss-ends, loss-read, loss-same, loss-new, count-behind, newly-lost-unacked}
 use Rattle.sent.proofs.ack.lose.Statement.{statement}

@@ -4,9 +4,9 @@ use mathlib.Core.List.{List}
 use Prim.Native.Nat.{ℕ, _≤_, _-_, _+_}
 use native.Mathlib.Omega.{arith}
 use lib.ListN.{length, getD, set}
-use Rattle.sent.specs.declared.state.Packet.{Packet}
-use Rattle.sent.specs.Tracker.{noPacket}
-use Rattle.sent.specs.Laws.Move.{movedOf, moved-one}
+use Rattle.outgoing.specs.declared.kept.Packet.{Packet}
+use Rattle.outgoing.specs.Tracker.{noPacket}
+use Rattle.outgoing.specs.Laws.Move.{movedOf, moved-one}
 use Rattle.sent.proofs.ack.moved_down.Statement.{statement}
 use Rattle.sent.proofs.ack.moved_down.Tie as tie
 

@@ -5,10 +5,9 @@ use native.Mathlib.Omega.{arith}
 use lib.ListN.{length, getD}
 use lib.Seq.{slice}
 use borrow.Author.Needs.{needs}
-use Rattle.sent.specs.declared.state.Packet.{Packet}
-use Rattle.sent.specs.Tracker.{noPacket}
-use Rattle.sent.specs.Lost.{lostCountOf}
-use Rattle.sent.specs.Laws.Lost.{lost-one-small, count-next, count-done}
+use Rattle.outgoing.specs.Tracker.{noPacket}
+use Rattle.outgoing.specs.Lost.{lostCountOf}
+use Rattle.outgoing.specs.Laws.Lost.{lost-one-small, count-next, count-done}
 use Rattle.sent.proofs.lost.lost_between.Statement.{statement}
 use Rattle.sent.proofs.lost.lost_between.Tie as tie
 

@@ -4,8 +4,8 @@ use Prim.Native.Nat.{ℕ, _≤_, _-_, _+_}
 use native.Mathlib.Omega.{arith}
 use lib.ListN.{length}
 use lib.Seq.{slice}
-use Rattle.sent.specs.Lost.{nthLost}
-use Rattle.sent.specs.Laws.Lost.{nth-skip, nth-here, nth-next, nth-done}
+use Rattle.outgoing.specs.Lost.{nthLost}
+use Rattle.outgoing.specs.Laws.Lost.{nth-skip, nth-here, nth-next, nth-done}
 use Rattle.sent.proofs.lost.lost_place.Statement.{statement}
 use Rattle.sent.proofs.lost.lost_place.Tie as tie
 

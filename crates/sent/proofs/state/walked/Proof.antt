@@ -4,10 +4,9 @@ use Prim.Native.Nat.{_≤_, _-_, _*_, _^_}
 use native.Mathlib.Omega.{arith}
 use lib.ListN.{length, take, drop, getD}
 use borrow.Author.Needs.{needs}
-use Rattle.sent.specs.declared.state.Packet.{Packet}
-use Rattle.sent.specs.Loss.{ackedCountOf}
-use Rattle.sent.specs.State.{inFlightOf, packetsSoundOf}
-use Rattle.sent.specs.Tracker.{noPacket}
+use Rattle.outgoing.specs.Loss.{ackedCountOf}
+use Rattle.outgoing.specs.Sound.{inFlightOf, packetsSoundOf}
+use Rattle.outgoing.specs.Tracker.{noPacket}
 use Rattle.sent.specs.Laws.Kept.{kept-behind, kept-end, acked-one-small}
 use Rattle.sent.proofs.state.walked.Statement.{statement}
 use Rattle.sent.proofs.state.walked.Tie as tie

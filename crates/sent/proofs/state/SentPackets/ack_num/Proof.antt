@@ -1,5 +1,5 @@
 -- `ack_num` meets its contract: the run ends where the kept packets begin.
-use Rattle.sent.specs.Read.{ackNumIn}
+use Rattle.outgoing.specs.Read.{ackNumIn}
 use mathlib.Core.Path.{_≡_, sym, ap, _∙_}
 use mathlib.Core.Bool.{Bool, true, false, cond}
 use borrow.Author.Tests.{not-true, not-false}

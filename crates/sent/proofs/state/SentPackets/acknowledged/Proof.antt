@@ -7,13 +7,13 @@ use native.Mathlib.Omega.{arith}
 use denote.Ref.{now}
 use lib.ListN.{length, length-map, take, drop}
 use Rattle.congestion.specs.declared.numbers.Numbers.{Numbers}
-use Rattle.congestion.specs.declared.delays.Delays.{Delays}
+use Rattle.controller.specs.declared.delays.Delays.{Delays}
 use Rattle.congestion.specs.Numbers.{acceptedOf}
-use Rattle.sent.specs.declared.state.Packet.{Packet}
+use Rattle.outgoing.specs.declared.kept.Packet.{Packet}
 use Rattle.sent.specs.declared.state.SentPackets.{SentPackets}
-use Rattle.sent.specs.declared.ack.Heard.{Heard}
-use Rattle.sent.specs.Ack.{fromUnacked}
-use Rattle.sent.specs.Hear.{lossHeardOf}
+use Rattle.outgoing.specs.declared.ack.Heard.{Heard}
+use Rattle.outgoing.specs.Ack.{fromUnacked}
+use Rattle.outgoing.specs.Hear.{lossHeardOf}
 use Rattle.sent.specs.Laws.Sound.{state-counts}
 use Rattle.sent.specs.Laws.Transmit.{stateWith}
 use Rattle.sent.specs.Laws.AckState.{heardOn, quiet, loud}

@@ -10,7 +10,7 @@ use Rattle.common.specs.Answer.{done}
 use Rattle.sent.specs.Laws.Sound.{unsound-refused, read-sound, state-counts}
 use Prim.Native.Nat.{_<_}
 use lib.Dec.{ltb}
-use Rattle.sent.specs.Read.{hasLostIn}
+use Rattle.outgoing.specs.Read.{hasLostIn}
 use Rattle.sent.specs.Laws.LostState.{count-all}
 use borrow.Author.Needs.{needs}
 use Rattle.sent.proofs.state.SentPackets.has_lost_packets.Statement.{statement}

@@ -1,5 +1,5 @@
 -- `has_unacked_packets` meets its contract: the first kept packet is unacknowledged, so one is where one is kept.
-use Rattle.sent.specs.Read.{hasUnackedIn}
+use Rattle.outgoing.specs.Read.{hasUnackedIn}
 use mathlib.Core.Path.{_≡_, sym, ap, _∙_}
 use mathlib.Core.Bool.{true, false}
 use borrow.Author.Tests.{not-true, not-false}

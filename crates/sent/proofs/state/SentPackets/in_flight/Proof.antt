@@ -1,5 +1,5 @@
 -- `in_flight` meets its contract: the field, of a sound state.
-use Rattle.sent.specs.Read.{inFlightIn}
+use Rattle.outgoing.specs.Read.{inFlightIn}
 use mathlib.Core.Path.{_≡_, sym, _∙_}
 use mathlib.Core.Bool.{true, false}
 use borrow.Author.Tests.{not-true, not-false}

@@ -14,9 +14,9 @@ use lib.ListN.{getD}
 use lib.Seq.{slice}
 use Rattle.packet.specs.declared.seq.SeqNum.{SeqNum}
 use Rattle.packet.specs.declared.header.PacketType.{PacketType}
-use Rattle.sent.specs.declared.answer.LostPacket.{LostPacket}
-use Rattle.sent.specs.Tracker.{noPacket}
-use Rattle.sent.specs.Lost.{lostPacketOf, lostAtOf, lostCountOf, wrapPlace, lostPlaceOf}
+use Rattle.outgoing.specs.declared.answer.LostPacket.{LostPacket}
+use Rattle.outgoing.specs.Tracker.{noPacket}
+use Rattle.outgoing.specs.Lost.{lostPacketOf, lostAtOf, lostCountOf, wrapPlace, lostPlaceOf}
 use Rattle.sent.specs.State.{trackerOf}
 use Rattle.sent.specs.Laws.Sound.{sound-answered}
 use Rattle.sent.specs.Laws.LostState.{none-there, one-there}
@@ -71,7 +71,10 @@ sub-gone : tie.Need-sub-gone
 sub-gone c = omega (arith, counts (c .before .before .before) .1)
 
 wrap-place-requires : tie.Need-wrap-place-requires
-wrap-place-requires c κs = (omega (arith, counts (c .before .before .before) .2), counts (c .before .before .before) .0)
+wrap-place-requires c κs = search needs
+
+cast-wrap : tie.Need-cast-wrap
+cast-wrap c = search needs
 
 lost-between-requires : tie.Need-lost-between-requires
 lost-between-requires c κs = (omega (arith, c .wrap-place .ensures), counts (c .before .before .before .before) .0)
@@ -127,6 +130,7 @@ lost-at-spec =
     cast-live
     sub-gone
     wrap-place-requires
+    cast-wrap
     lost-between-requires
     lost-between-requires-2
     add-if2

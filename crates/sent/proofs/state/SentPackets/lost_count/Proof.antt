@@ -9,7 +9,7 @@ use lib.ListN.{length, length-map, take}
 use Rattle.common.specs.Answer.{done}
 use Rattle.sent.specs.Laws.Sound.{unsound-refused, read-sound, state-counts}
 use Prim.Native.Nat.{_<_}
-use Rattle.sent.specs.Read.{lostCountIn}
+use Rattle.outgoing.specs.Read.{lostCountIn}
 use Rattle.sent.specs.Laws.LostState.{count-all}
 use borrow.Author.Needs.{needs}
 use Rattle.sent.proofs.state.SentPackets.lost_count.Statement.{statement}

@@ -1,5 +1,5 @@
 -- `maximum` meets its contract: the field, of a sound state.
-use Rattle.sent.specs.Read.{maximumIn}
+use Rattle.outgoing.specs.Read.{maximumIn}
 use mathlib.Core.Path.{_≡_, sym, _∙_}
 use mathlib.Core.Bool.{true, false}
 use borrow.Author.Tests.{not-true, not-false}

@@ -1,10 +1,10 @@
 -- `may_transmit` meets its contract: 19 first, then the checks.
 use mathlib.Core.Path.{_≡_, sym, _∙_}
-use mathlib.Core.Bool.{true, false}
+use mathlib.Core.Bool.{true}
 use borrow.Author.Needs.{needs}
 use borrow.Author.Tests.{not-true, not-false}
 use Rattle.sent.specs.State.{stateSoundOf}
-use Rattle.sent.specs.Laws.Sound.{unsound-refused, sound-answered, state-facts}
+use Rattle.sent.specs.Laws.Sound.{unsound-refused, sound-answered}
 use Rattle.sent.proofs.state.SentPackets.may_transmit.Statement.{statement}
 use Rattle.sent.proofs.state.SentPackets.may_transmit.Tie as tie
 
@@ -18,7 +18,7 @@ returns : tie.Need-returns
 returns c = sym (unsound-refused _ _ (sym (c .before .sound .ensures) ∙ not-true _ (c .if1 .taken)))
 
 transmit-check-requires : tie.Need-transmit-check-requires
-transmit-check-requires c κs = state-facts (c .before .before .before .args .self) (sound-here (c .before)) .1 .sent-to
+transmit-check-requires c κs = search needs
 
 returns-2 : tie.Need-returns-2
 returns-2 c = c .transmit-check .ensures ∙ sym (sound-answered _ _ (sound-here (c .before .before)))

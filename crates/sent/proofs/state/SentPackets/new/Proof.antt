@@ -6,12 +6,12 @@ use Rattle.common.specs.Answer.{done, refused}
 use Rattle.packet.specs.declared.seq.SeqNum.{SeqNum}
 use Rattle.congestion.specs.declared.settings.Settings.{Settings}
 use Rattle.congestion.specs.declared.numbers.Numbers.{Numbers}
-use Rattle.congestion.specs.declared.delays.Delays.{Delays}
+use Rattle.controller.specs.declared.delays.Delays.{Delays}
 use Rattle.congestion.specs.Settings.{inRangeOf}
 use Rattle.congestion.specs.Numbers.{newOf}
-use Rattle.congestion.specs.Delays.{noDelays}
+use Rattle.controller.specs.Delays.{noDelays}
 use Rattle.sent.specs.declared.state.SentPackets.{SentPackets}
-use Rattle.sent.specs.Tracker.{noPacket}
+use Rattle.outgoing.specs.Tracker.{noPacket}
 use Rattle.sent.specs.State.{freshOf}
 use borrow.Author.Needs.{needs}
 use Rattle.sent.proofs.state.SentPackets.new.Statement.{statement}

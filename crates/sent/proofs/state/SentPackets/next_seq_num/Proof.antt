@@ -1,5 +1,5 @@
 -- `next_seq_num` meets its contract: one past those that were sent.
-use Rattle.sent.specs.Read.{nextSeqNumIn}
+use Rattle.outgoing.specs.Read.{nextSeqNumIn}
 use mathlib.Core.Path.{_≡_, sym, ap, _∙_}
 use mathlib.Core.Bool.{true, false}
 use borrow.Author.Tests.{not-true, not-false}
@@ -8,7 +8,6 @@ use Prim.Native.Nat.{_≤_, _-_}
 use native.Mathlib.Omega.{arith}
 use lib.ListN.{length, length-map, take}
 use Rattle.common.specs.Answer.{done}
-use Rattle.packet.specs.declared.seq.SeqNum.{SeqNum}
 use Rattle.sent.specs.Laws.Sound.{unsound-refused, read-sound, state-counts}
 use borrow.Author.Needs.{needs}
 use Rattle.sent.proofs.state.SentPackets.next_seq_num.Statement.{statement}

@@ -6,9 +6,9 @@ use denote.Ref.{now}
 use lib.ListN.{length}
 use borrow.Author.Tests.{not-true, not-false}
 use Rattle.packet.specs.declared.seq.Offset.{Offset}
-use Rattle.sent.specs.Answers.{outcome}
-use Rattle.sent.specs.Tracker.{offsetIn}
-use Rattle.sent.specs.Ack.{ackCheck, ackOf}
+use Rattle.outgoing.specs.Answers.{outcome}
+use Rattle.outgoing.specs.Tracker.{offsetIn}
+use Rattle.outgoing.specs.Ack.{ackCheck, ackOf}
 use Rattle.sent.specs.State.{stateSoundOf, trackerOf, ackStateOf, answeredAs, ackAnswer}
 use Rattle.sent.specs.Laws.Sound.{unsound-refused}
 use Rattle.sent.specs.Laws.AckState.{ack-checked, ack-refused, ack-done}

@@ -10,7 +10,8 @@ use Rattle.common.specs.Answer.{done}
 use Rattle.congestion.specs.declared.numbers.Numbers.{Numbers}
 use Rattle.congestion.specs.Numbers.{timedOutOf}
 use Rattle.sent.specs.declared.state.SentPackets.{SentPackets}
-use Rattle.sent.specs.State.{answeredOf, timeoutOf, trackerOf, timeoutAnswer}
+use Rattle.outgoing.specs.Sound.{timeoutOf}
+use Rattle.sent.specs.State.{answeredOf, trackerOf, timeoutAnswer}
 use Rattle.sent.specs.Laws.Kept.{written-kept}
 use Rattle.sent.specs.Laws.Sound.{unsound-refused, sound-answered, state-facts, state-counts}
 use borrow.Author.Needs.{needs}

@@ -6,12 +6,12 @@ use native.Mathlib.Omega.{arith}
 use lib.ListN.{length, length-map}
 use Rattle.common.specs.Answer.{done}
 use Rattle.packet.specs.declared.seq.Offset.{Offset}
-use Rattle.sent.specs.declared.state.Packet.{Packet}
-use Rattle.sent.specs.Answers.{outcome}
-use Rattle.sent.specs.Tracker.{offsetIn, clockedOf}
-use Rattle.sent.specs.Transmit.{transmitCheck, resentOf, recordedOf}
+use Rattle.outgoing.specs.declared.kept.Packet.{Packet}
+use Rattle.outgoing.specs.Answers.{outcome}
+use Rattle.outgoing.specs.Tracker.{offsetIn, clockedOf}
+use Rattle.outgoing.specs.Transmit.{transmitCheck, resentOf, recordedOf}
 use Rattle.sent.specs.State.{stateSoundOf, whenStateSound, trackerOf, writtenOf}
-use Rattle.sent.specs.Laws.Checks.{held}
+use Rattle.outgoing.specs.Laws.Checks.{held}
 use Rattle.sent.specs.Laws.Transmit.{room-checked, transmit-stopped, transmit-again, transmit-first}
 use borrow.Author.Needs.{needs}
 use Rattle.sent.proofs.state.SentPackets.on_transmit.Statement.{statement}

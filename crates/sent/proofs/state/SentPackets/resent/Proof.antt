@@ -4,7 +4,7 @@ use Prim.Native.Nat.{_≤_, _-_}
 use native.Mathlib.Omega.{arith}
 use lib.ListN.{length, length-map, take, set}
 use Rattle.congestion.specs.declared.numbers.Numbers.{Numbers}
-use Rattle.sent.specs.declared.state.Packet.{Packet}
+use Rattle.outgoing.specs.declared.kept.Packet.{Packet}
 use Rattle.sent.specs.Laws.Sound.{state-counts}
 use Rattle.sent.specs.Laws.Transmit.{stateWith, resent-gone, resent-kept}
 use borrow.Author.Needs.{needs}

@@ -1,5 +1,5 @@
 -- `seq_num_range` meets its contract: from the initial number to the one as far on as packets were sent.
-use Rattle.sent.specs.Read.{seqNumRangeIn}
+use Rattle.outgoing.specs.Read.{seqNumRangeIn}
 use mathlib.Core.Path.{_≡_, sym, ap, _∙_}
 use mathlib.Core.Bool.{true, false}
 use borrow.Author.Tests.{not-true, not-false}

@@ -1,7 +1,7 @@
 -- `sound` meets its contract: with at most 512 kept, each part of the test is the definition's, in its order.
-use mathlib.Core.Path.{_≡_, sym, ap, _∙_}
+use mathlib.Core.Path.{_≡_, sym, _∙_}
 use native.Mathlib.Omega.{arith}
-use lib.ListN.{length, length-map, take}
+use lib.ListN.{length, length-map}
 use borrow.Author.Tests.{lt-leb}
 use Rattle.sent.specs.State.{stateSoundOf}
 use Rattle.sent.specs.Laws.Sound.{sound-by-parts}

@@ -1,5 +1,5 @@
 -- `window` meets its contract: what the numbers of a sound state say is free.
-use Rattle.sent.specs.Read.{windowIn}
+use Rattle.outgoing.specs.Read.{windowIn}
 use mathlib.Core.Path.{_≡_, sym, ap, _∙_}
 use mathlib.Core.Bool.{true, false}
 use borrow.Author.Tests.{not-true, not-false}

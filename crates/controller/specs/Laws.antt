@@ -1,0 +1,6 @@
+-- Laws about the definitions, by topic.
+pub mod Delays
+pub mod Samples
+pub mod Base
+pub mod Controller
+pub mod Answer
