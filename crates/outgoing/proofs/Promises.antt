@@ -1,7 +1,7 @@
 -- Every public function of the crate, in the order of the source: nothing is asked of its caller, and no two different outcomes satisfy its promise.
 use Rattle.common.specs.Promise.{Promise, by-value, by-code}
-use Rattle.outgoing.specs.Answers.{outcome}
-use Rattle.outgoing.specs.Laws.OneToOne.{outcome-one}
+use Rattle.outgoing.specs.Answers.{outcome, numberTold, seqTold, rangeTold, truthTold}
+use Rattle.outgoing.specs.Laws.OneToOne.{outcome-one, number-one, seq-one, range-one, truth-one}
 use Rattle.outgoing.proofs.ack.ack_check.Reads as ack-check
 use Rattle.outgoing.proofs.ack.Ack.keeps.Reads as keeps
 use Rattle.outgoing.proofs.ack.Ack.credited.Reads as credited
@@ -18,6 +18,12 @@ use Rattle.outgoing.proofs.kept.Packet.lost_now.Reads as lost-now
 use Rattle.outgoing.proofs.kept.Packet.lost_one.Reads as lost-one
 use Rattle.outgoing.proofs.lost.type_of.Reads as type-of
 use Rattle.outgoing.proofs.lost.wrap_place.Reads as wrap-place
+use Rattle.outgoing.proofs.told.number_told.Reads as number-told
+use Rattle.outgoing.proofs.told.seq_told.Reads as seq-told
+use Rattle.outgoing.proofs.told.range_told.Reads as range-told
+use Rattle.outgoing.proofs.told.truth_told.Reads as truth-told
+use Rattle.outgoing.proofs.told.any_told.Reads as any-told
+use Rattle.outgoing.proofs.told.last_acked.Reads as last-acked
 use Rattle.outgoing.proofs.transmit.transmit_check.Reads as transmit-check
 
 ack-check-promise : Promise ack-check.Pre ack-check.Post (λ κs r s. r)
@@ -67,6 +73,24 @@ type-of-promise = by-value _ (λ κs a. tt) (λ κs a r s p. p)
 
 wrap-place-promise : Promise wrap-place.Pre wrap-place.Post (λ κs r s. r)
 wrap-place-promise = by-value _ (λ κs a. tt) (λ κs a r s p. p)
+
+number-told-promise : Promise number-told.Pre number-told.Post (λ κs r s. r)
+number-told-promise = by-code numberTold number-one _ (λ κs a. tt) (λ κs a r s p. p)
+
+seq-told-promise : Promise seq-told.Pre seq-told.Post (λ κs r s. r)
+seq-told-promise = by-code seqTold seq-one _ (λ κs a. tt) (λ κs a r s p. p)
+
+range-told-promise : Promise range-told.Pre range-told.Post (λ κs r s. r)
+range-told-promise = by-code rangeTold range-one _ (λ κs a. tt) (λ κs a r s p. p)
+
+truth-told-promise : Promise truth-told.Pre truth-told.Post (λ κs r s. r)
+truth-told-promise = by-code truthTold truth-one _ (λ κs a. tt) (λ κs a r s p. p)
+
+any-told-promise : Promise any-told.Pre any-told.Post (λ κs r s. r)
+any-told-promise = by-code truthTold truth-one _ (λ κs a. tt) (λ κs a r s p. p)
+
+last-acked-promise : Promise last-acked.Pre last-acked.Post (λ κs r s. r)
+last-acked-promise = by-value _ (λ κs a. tt) (λ κs a r s p. p)
 
 transmit-check-promise : Promise transmit-check.Pre transmit-check.Post (λ κs r s. r)
 transmit-check-promise = by-code outcome outcome-one _ (λ κs a. tt) (λ κs a r s p. p)

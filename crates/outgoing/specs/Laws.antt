@@ -1,5 +1,6 @@
 -- Laws about the definitions beside this file, a file for each topic.
 pub mod Checks
+pub mod Told
 pub mod OneToOne
 pub mod Hear
 pub mod Sample

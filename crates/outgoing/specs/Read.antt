@@ -4,9 +4,10 @@ use mathlib.Core.Bool.{Bool, true, false, cond}
 use mathlib.Core.List.{List, [], _∷_}
 use lib.Dec.{eqb, ltb}
 use lib.ListN.{length}
-use Rattle.packet.specs.declared.seq.SeqNum.{SeqNum}
-use Rattle.packet.specs.declared.seq.CircularRangeInclusive.{CircularRangeInclusive}
-use Rattle.packet.specs.Seq.{plusOf}
+use Rattle.common.specs.Answer.{Answer, done, refused}
+use Rattle.wire.specs.declared.seq.SeqNum.{SeqNum}
+use Rattle.wire.specs.declared.seq.CircularRangeInclusive.{CircularRangeInclusive}
+use Rattle.wire.specs.Seq.{plusOf}
 use Rattle.congestion.specs.Numbers.{freeOf}
 use Rattle.outgoing.specs.declared.kept.Packet.{Packet}
 use Rattle.outgoing.specs.Loss.{isUnacked}
@@ -26,9 +27,12 @@ inFlightIn t = t .numbers .«in_flight»
 abbrev pub maximumIn : Tracker → ℕ
 maximumIn t = t .numbers .maximum
 
--- `ack_num` gives the last of the acknowledged run, or 0 if none.
+-- The last of the acknowledged run, or 0 if none.
+abbrev pub lastAckedOf : SeqNum → ℕ → SeqNum
+lastAckedOf initial gone = cond (eqb gone 0) (record { 0 = 0 }) (plusOf initial gone)
+
 abbrev pub ackNumIn : Tracker → SeqNum
-ackNumIn t = cond (eqb (goneOf t) 0) (record { 0 = 0 }) (plusOf (t .initial) (goneOf t))
+ackNumIn t = lastAckedOf (t .initial) (goneOf t)
 
 abbrev pub nextSeqNumIn : Tracker → SeqNum
 nextSeqNumIn t = plusOf (t .initial) (t .sent + 1)
@@ -51,3 +55,12 @@ lostCountIn t = length (lostListOf t)
 
 abbrev pub hasLostIn : Tracker → Bool
 hasLostIn t = ltb 0 (lostCountIn t)
+
+-- What a question is answered: 19 where the state is not sound.
+abbrev pub toldOf : {A : Type 0} → Bool → A → Answer A
+toldOf sound a = cond sound (done a) (refused 19)
+
+-- Whether there is one, where it was told how many.
+abbrev pub anyOf : Answer ℕ → Answer Bool
+anyOf (done n) = done (ltb 0 n)
+anyOf (refused n) = refused n

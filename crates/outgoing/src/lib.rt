@@ -5,4 +5,5 @@ pub mod ack;
 pub mod answer;
 pub mod kept;
 pub mod lost;
+pub mod told;
 pub mod transmit;

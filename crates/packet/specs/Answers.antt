@@ -2,15 +2,9 @@
 -- same number and values. Definitions only.
 use Prim.Native.Nat.{ℕ}
 use Rattle.common.specs.Answer.{Answer, done, refused}
-use Rattle.packet.specs.declared.header.PacketType.{PacketType}
-use Rattle.packet.specs.declared.header.TypeRead.{TypeRead}
-use Rattle.packet.specs.declared.header.TypeRead.the-variants.{Known, Unknown}
+use Rattle.wire.specs.Answers.{sackNumber}
 use Rattle.packet.specs.declared.header.HeaderReason.{HeaderReason}
 use Rattle.packet.specs.declared.header.HeaderReason.the-variants.{TooShort, UnknownType, UnknownVersion}
-use Rattle.packet.specs.declared.sack.SackReason.{SackReason}
-use Rattle.packet.specs.declared.sack.SackReason.the-variants.{Insufficient, NotWords, TooLong}
-use Rattle.packet.specs.declared.sack.Checked.{Checked}
-use Rattle.packet.specs.declared.sack.Checked.the-variants.{Fine, Bad}
 use Rattle.packet.specs.declared.decode.Packet.{Packet}
 use Rattle.packet.specs.declared.decode.Reason.{Reason}
 use Rattle.packet.specs.declared.decode.Reason.the-variants.{InHeader, InExtension, InSack, EmptyPayload}
@@ -23,23 +17,10 @@ use Rattle.packet.specs.declared.encode.Found.the-variants.{Fit, Unfit}
 use Rattle.packet.specs.declared.encode.Encoded.{Encoded}
 use Rattle.packet.specs.declared.encode.Encoded.the-variants.{Written, Refused}
 
-abbrev pub typeRead : TypeRead → Answer PacketType
-typeRead (Known t) = done t
-typeRead Unknown = refused 2
-
 abbrev pub headerNumber : HeaderReason → ℕ
 headerNumber TooShort = 1
 headerNumber UnknownType = 2
 headerNumber UnknownVersion = 3
-
-abbrev pub sackNumber : SackReason → ℕ
-sackNumber Insufficient = 5
-sackNumber NotWords = 6
-sackNumber TooLong = 8
-
-abbrev pub checked : Checked → Answer ℕ
-checked (Fine n) = done n
-checked (Bad r) = refused (sackNumber r)
 
 abbrev pub reasonNumber : Reason → ℕ
 reasonNumber (InHeader r) = headerNumber r

@@ -1,6 +1,6 @@
 -- What decoding a datagram answers (document 01, "Packets on the wire" and "Answer numbers" 1 to 7). Definitions only.
 use Prim.Native.Nat.{ℕ, _-_, _%_}
-use mathlib.Core.Bool.{Bool, true, false, cond}
+use mathlib.Core.Bool.{cond}
 use mathlib.Core.List.{List, []}
 use lib.ListN.{length, take, drop}
 use lib.Dec.{ltb, leb, eqb}

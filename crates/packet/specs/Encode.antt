@@ -1,13 +1,13 @@
 -- What writing a packet answers and leaves in the lent room (document 01, "Packets on the wire", "Writing"). Definitions only.
 use Prim.Native.Nat.{ℕ, _+_}
-use mathlib.Core.Bool.{Bool, true, false, cond}
+use mathlib.Core.Bool.{cond}
 use mathlib.Core.List.{List, [], _∷_, _++_}
 use lib.ListN.{length}
 use lib.Dec.{ltb, eqb}
 use Rattle.common.specs.Answer.{Answer, done, refused, _then_}
 use Rattle.common.specs.Laws.Put.{put}
 use Rattle.packet.specs.Layout.{widths, bytesOf, fieldsOfHeader, emptyData}
-use Rattle.packet.specs.Sack.{maskAnswer}
+use Rattle.wire.specs.Sack.{maskAnswer}
 use Rattle.packet.specs.declared.header.Header.{Header}
 
 -- The extension byte is 1 with a SACK, else 0; an empty SACK means none.

@@ -1,5 +1,4 @@
 -- Laws about the definitions beside this file, a file for each topic.
-pub mod Seq
 pub mod Number
 pub mod Layout
 pub mod Chain
@@ -9,4 +8,3 @@ pub mod OneToOne
 pub mod RoundTrip
 pub mod ReadWritten
 pub mod WriteRead
-pub mod Sack

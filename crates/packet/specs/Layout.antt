@@ -1,14 +1,12 @@
 -- The layout of a header (document 01, "Packets on the wire"; BEP 29 facts, section 1), said once for the reader and the writer. Definitions only.
-use Prim.Native.Nat.{ℕ, suc, zero, _+_, _*_, _/_, _%_, _^_, _<_}
+use Prim.Native.Nat.{ℕ, suc, zero, _+_, _*_, _/_, _%_, _^_}
 use mathlib.Core.List.{List, [], _∷_, _++_}
 use mathlib.Core.Bool.{Bool, false, cond}
 use lib.ListN.{length, take, drop, getD}
-use lib.Dec.{ltb, eqb}
-use Rattle.common.specs.Answer.{Answer, done, refused}
-use Rattle.packet.specs.declared.seq.SeqNum.{SeqNum}
+use lib.Dec.{eqb}
+use Rattle.wire.specs.Kind.{typeNumber, typeOf}
 use Rattle.packet.specs.declared.header.Header.{Header}
-use Rattle.packet.specs.declared.header.PacketType.{PacketType}
-use Rattle.packet.specs.declared.header.PacketType.the-variants.{Data, Fin, State, Reset, Syn}
+use Rattle.wire.specs.declared.kind.PacketType.{PacketType}
 
 -- Big-endian: the most significant byte comes first.
 abbrev pub big : List ℕ → ℕ
@@ -36,26 +34,6 @@ widths = 1 ∷ 1 ∷ 2 ∷ 4 ∷ 4 ∷ 4 ∷ 2 ∷ 2 ∷ []
 
 abbrev pub headerLength : ℕ
 headerLength = 20
-
--- Types: Data 0, Fin 1, State 2, Reset 3, Syn 4.
-abbrev pub typeNumber : PacketType → ℕ
-typeNumber Data = 0
-typeNumber Fin = 1
-typeNumber State = 2
-typeNumber Reset = 3
-typeNumber Syn = 4
-
--- The type of a number up to 4.
-abbrev pub typeOf : ℕ → PacketType
-typeOf zero = Data
-typeOf (suc zero) = Fin
-typeOf (suc (suc zero)) = State
-typeOf (suc (suc (suc zero))) = Reset
-typeOf (suc (suc (suc (suc n)))) = Syn
-
--- 2: a packet type above 4.
-abbrev pub typeAnswer : ℕ → Answer PacketType
-typeAnswer n = cond (ltb 4 n) (refused 2) (done (typeOf n))
 
 -- The type stands in the high four bits of the first byte, the version in the low four; the version is 1.
 abbrev pub fieldsOfHeader : Header → ℕ → List ℕ

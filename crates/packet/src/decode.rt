@@ -11,11 +11,11 @@ use crate::extension::Part;
 use crate::extension::read_chain;
 use crate::header::Header;
 use crate::header::HeaderReason;
-use crate::header::PacketType;
-use crate::header::TypeRead;
 use crate::header::is_empty_data;
 use crate::header::read_header;
-use crate::sack::SackReason;
+use wire::kind::PacketType;
+use wire::kind::TypeRead;
+use wire::sack::SackReason;
 
 // A datagram that was read: its header, the first SACK (no bytes where there is none), and the
 // payload, the two as parts of the datagram.

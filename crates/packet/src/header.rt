@@ -3,21 +3,13 @@ ghost use Prim.Native.Nat.{_+_, _*_, _≤_};
 ghost use mathlib.Core.Path.{_≡_};
 ghost use lib.ListN.{length};
 ghost use Rattle.common.specs.Laws.Put.{put};
-ghost use Rattle.packet.specs.Layout.{typeNumber, typeAnswer, widths, bytesOf, fieldsOfHeader, headerWith, emptyData};
-ghost use Rattle.packet.specs.Answers.{typeRead};
+ghost use Rattle.packet.specs.Layout.{widths, bytesOf, fieldsOfHeader, headerWith, emptyData};
 use crate::number::put16;
 use crate::number::put32;
 use crate::number::read16;
 use crate::number::read32;
-use crate::seq::SeqNum;
-
-pub enum PacketType {
-    Data,
-    Fin,
-    State,
-    Reset,
-    Syn,
-}
+use wire::kind::PacketType;
+use wire::seq::SeqNum;
 
 // What stands in a header: all but the version, which is 1, and the first extension, which goes
 // with the chain.
@@ -36,40 +28,6 @@ pub enum HeaderReason {
     TooShort,
     UnknownType,
     UnknownVersion,
-}
-
-pub enum TypeRead {
-    Known(PacketType),
-    Unknown,
-}
-
-impl PacketType {
-    // The type's number on the wire.
-    pub fn number(self) -> u8
-        ensures { λ r. ⌜ r ≡ typeNumber self ⌝ }
-    {
-        match self {
-            PacketType::Data => 0,
-            PacketType::Fin => 1,
-            PacketType::State => 2,
-            PacketType::Reset => 3,
-            PacketType::Syn => 4,
-        }
-    }
-
-    // The type of a number, which is unknown (2) above 4.
-    pub fn of_number(n: u8) -> TypeRead
-        ensures { λ r. ⌜ typeRead r ≡ typeAnswer n ⌝ }
-    {
-        match n {
-            0 => TypeRead::Known(PacketType::Data),
-            1 => TypeRead::Known(PacketType::Fin),
-            2 => TypeRead::Known(PacketType::State),
-            3 => TypeRead::Known(PacketType::Reset),
-            4 => TypeRead::Known(PacketType::Syn),
-            _ => TypeRead::Unknown,
-        }
-    }
 }
 
 // Is this Data with an empty payload?

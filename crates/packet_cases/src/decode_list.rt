@@ -1,118 +1,81 @@
 // decode.bin: a datagram, its answer number, and after 0 the packet's fields.
-use feed::Feed;
-use feed::Held;
-use feed::Record;
-use feed::both;
-use feed::same_numbers;
+ghost use Prim.Native.Nat.{_≤_};
 use lines::answer::of_reason;
+use list::behind;
+use list::behind_part;
+use list::four;
+use list::number;
+use list::part;
+use list::tells;
+use list::two;
 use packet::decode::Decoded;
 use packet::decode::Packet;
+use packet::extension::Part;
+use packet::header::Header;
 use report::tally::Tally;
-use report::text::front;
+use std::num::wrapping_add_usize;
 
-// The width in bytes of each field that stands behind answer 0: type, connection, timestamp, difference,
-// window, sequence, ack, the SACK's place and length, the payload's place and length.
-const WIDTHS: [u8; 11] = [1, 2, 4, 4, 4, 2, 2, 2, 2, 2, 2];
-
-// An answer's number, and the values that go with it.
-struct Answer {
-    number: u64,
-    fields: [u64; 11],
+// Behind answer 0 of the record: type, connection, timestamp, difference, window, sequence, ack.
+fn is_header(header: Header, seen: &[u8]) -> bool {
+    let packet_type = header.packet_type;
+    tells(seen, 1, 1, packet_type.number() as u64)
+        & (header.conn_id == two(seen, 2))
+        & (header.ts_micros == four(seen, 4))
+        & (header.ts_diff_micros == four(seen, 8))
+        & (header.window_size == four(seen, 12))
+        & (header.seq_num.0 == two(seen, 16))
+        & (header.ack_num.0 == two(seen, 18))
 }
 
-fn fields_of(packet: Packet) -> [u64; 11] {
+// The place and the length of a part.
+fn is_part(part: Part, seen: &[u8], at: usize) -> bool {
+    let place = behind(seen, at);
+    tells(place, 0, 2, part.at as u64) & tells(place, 2, 2, part.len as u64)
+}
+
+// Behind the header: the SACK's place and length, the payload's place and length.
+fn is_packet(packet: Packet, seen: &[u8]) -> bool {
     let header = packet.header;
-    let packet_type = header.packet_type;
     let sack = packet.sack;
     let payload = packet.payload;
-    [
-        packet_type.number() as u64,
-        header.conn_id as u64,
-        header.ts_micros as u64,
-        header.ts_diff_micros as u64,
-        header.window_size as u64,
-        header.seq_num.0 as u64,
-        header.ack_num.0 as u64,
-        sack.at as u64,
-        sack.len as u64,
-        payload.at as u64,
-        payload.len as u64,
-    ]
+    is_header(header, seen) & is_part(sack, seen, 20) & is_part(payload, seen, 24)
 }
 
-fn answer_of(datagram: &[u8]) -> Answer {
+// Is the answer to the datagram the recorded one, in every field?
+fn is_seen(datagram: &[u8], seen: &[u8]) -> bool {
     match Packet::decode(datagram) {
-        Decoded::Accepted(packet) => Answer {
-            number: 0,
-            fields: fields_of(packet),
-        },
-        Decoded::Undecoded(reason) => Answer {
-            number: of_reason(reason),
-            fields: [0; 11],
-        },
+        Decoded::Accepted(packet) => tells(seen, 0, 1, 0) & is_packet(packet, seen),
+        Decoded::Undecoded(reason) => tells(seen, 0, 1, of_reason(reason)),
     }
 }
 
-fn same_fields(a: &[u64; 11], b: &[u64; 11]) -> bool {
-    same_numbers(a, b)
+// How many bytes of the record stand behind its datagram.
+fn seen_size(seen: &[u8]) -> usize
+    ensures { λ r. ⌜ r ≤ 28 ⌝ }
+{
+    if number(seen, 0, 1) == 0 { 28 } else { 1 }
 }
 
-// Holds the fields against those that stand behind answer 0.
-fn held_fields(feed: Feed, window: &mut [u8], fields: [u64; 11]) -> Held {
-    let mut recorded = [0u64; 11];
-    let behind = feed.numbers(window, &WIDTHS, &mut recorded);
-    Held {
-        is_same: both(same_fields(&fields, &recorded), !behind.short),
-        feed: behind,
-    }
+fn size_of(record: &[u8]) -> usize {
+    2 + two(record, 0) as usize + seen_size(behind_part(record))
 }
 
-// Holds an answer against the one of the list.
-fn compare_answer(feed: Feed, window: &mut [u8], found: Answer) -> Record {
-    let expected = feed.byte(window);
-    let is_equal = both(found.number == expected.value, !expected.feed.short);
-    if expected.value != 0 {
-        let behind = expected.feed;
-        return Record {
-            answer: expected.value,
-            is_same: is_equal,
-            feed: behind,
-        };
-    }
-    let fields = found.fields;
-    let held = held_fields(expected.feed, window, fields);
-    let behind = held.feed;
-    Record {
-        answer: 0,
-        is_same: both(is_equal, held.is_same),
-        feed: behind,
-    }
+fn counted(tally: Tally, record: &[u8]) -> Tally {
+    let seen = behind_part(record);
+    let is_whole = size_of(record) <= record.len();
+    tally.counted(number(seen, 0, 1), is_whole & is_seen(part(record), seen))
 }
 
-fn compare(feed: Feed, window: &mut [u8], datagram: &mut [u8]) -> Record {
-    let length = feed.number(window, 2);
-    let size = (length.value % 65536) as usize;
-    let behind = length.feed.bytes(window, datagram, size);
-    compare_answer(behind, window, answer_of(front(datagram, size)))
-}
-
-fn replay_all(fd: i32, window: &mut [u8], datagram: &mut [u8]) -> Tally {
+pub fn replay(list: &[u8]) -> Tally {
     let mut tally = Tally::new();
-    let mut feed = Feed::new(fd);
+    let mut at = 0;
     for _ in 0..u64::MAX {
-        feed = feed.filled(window);
-        if !feed.has_more() {
+        if at >= list.len() {
             return tally;
         }
-        let record = compare(feed, window, datagram);
-        feed = record.feed;
-        tally = tally.counted(record.answer, record.is_same);
+        let record = behind(list, at);
+        tally = counted(tally, record);
+        at = wrapping_add_usize(at, size_of(record));
     }
     tally
-}
-
-pub fn replay(fd: i32) -> Tally {
-    let mut window = io::large_buffer();
-    let mut datagram = io::large_buffer();
-    replay_all(fd, &mut window, &mut datagram)
 }

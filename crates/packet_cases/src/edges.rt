@@ -1,22 +1,18 @@
 // Cases at the edges that the lists lack or do not single out.
-use crate::encode_list::is_untouched;
-use crate::encode_list::write;
-use feed::both;
+use crate::encode_list;
 use lines::answer::of_reason;
 use lines::answer::of_sack;
 use packet::decode::Decoded;
 use packet::decode::Packet;
 use packet::extension::Part;
-use packet::header::Header;
-use packet::header::PacketType;
-use packet::sack::Checked;
-use packet::sack::bit_count;
-use packet::sack::check;
-use packet::sack::is_set;
-use packet::sack::meant;
-use packet::seq::SeqNum;
 use report::tally::Tally;
 use report::text::front;
+use wire::sack::Checked;
+use wire::sack::bit_count;
+use wire::sack::check;
+use wire::sack::is_set;
+use wire::sack::meant;
+use wire::seq::SeqNum;
 
 // The answer's number.
 fn decoded(datagram: &[u8]) -> u64 {
@@ -26,116 +22,90 @@ fn decoded(datagram: &[u8]) -> u64 {
     }
 }
 
-fn counted(tally: Tally, expected: u64, found: u64) -> Tally {
-    tally.counted(expected, expected == found)
+// The first so many bytes of a datagram.
+fn cut(tally: Tally, datagram: &[u8], count: usize, expected: u64) -> Tally {
+    tally.counted(expected, decoded(front(datagram, count)) == expected)
 }
 
-fn store(datagram: &mut [u8], at: usize, byte: u8) {
-    if at < datagram.len() {
-        datagram[at] = byte;
+// A State header that names extension 1, and a chain of extension 1 with length 0 over and over, whose
+// number at the place `end` is 0.
+fn chain_byte(at: usize, end: usize) -> u8 {
+    match at {
+        0 => 33,
+        1 => 1,
+        _ => ((at >= 20) & (at % 2 == 0) & (at != end)) as u8,
     }
 }
 
-// A State header that names extension 1, and a chain of extension 1 with length 0 over and over.
-fn fill_chain(datagram: &mut [u8]) {
-    store(datagram, 0, 33);
-    store(datagram, 1, 1);
-    for i in 20..65535 {
-        store(datagram, i, 1 - (i % 2) as u8);
+fn fill_chain(datagram: &mut [u8], end: usize) {
+    let mut i = 0;
+    while i < datagram.len() {
+        datagram[i] = chain_byte(i, end);
+        i += 1;
     }
 }
 
 // The longest datagrams: a chain that is cut in a head, and one that ends at the end with a number that
 // is not 0.
 fn unended(tally: Tally, datagram: &[u8]) -> Tally {
-    let cut = counted(tally, 4, decoded(front(datagram, 65535)));
-    counted(cut, 4, decoded(front(datagram, 65534)))
+    cut(cut(tally, datagram, 65535, 4), datagram, 65534, 4)
 }
 
 // A chain whose last number is 0, so that its first SACK, of 0 bytes, is looked at.
 fn ended(tally: Tally, datagram: &[u8]) -> Tally {
-    let whole = counted(tally, 5, decoded(front(datagram, 65534)));
-    counted(whole, 5, decoded(front(datagram, 65535)))
+    cut(cut(tally, datagram, 65534, 5), datagram, 65535, 5)
 }
 
 fn longest(tally: Tally, datagram: &mut [u8]) -> Tally {
-    fill_chain(datagram);
-    let cut = unended(tally, datagram);
-    store(datagram, 65532, 0);
-    ended(cut, datagram)
+    fill_chain(datagram, usize::MAX);
+    let open = unended(tally, datagram);
+    fill_chain(datagram, 65532);
+    ended(open, datagram)
+}
+
+// A State with extension 2 of four bytes.
+const STATE: [u8; 26] =
+    *b"\x21\x02\x00\x07\x00\x00\x00\x01\x00\x00\x00\x02\x00\x00\x00\x03\x00\x05\x00\x04\x00\x04\x09\x09\x09\x09";
+
+fn state_cut(tally: Tally, count: usize, expected: u64) -> Tally {
+    cut(tally, &STATE, count, expected)
 }
 
 // Short datagrams: none, one byte too few for a header, a chain that is one byte short in its body and
 // in its head, and the same whole.
 fn short(tally: Tally) -> Tally {
-    let state = [
-        33u8,
-        2,
-        0,
-        7,
-        0,
-        0,
-        0,
-        1,
-        0,
-        0,
-        0,
-        2,
-        0,
-        0,
-        0,
-        3,
-        0,
-        5,
-        0,
-        4,
-        0,
-        4,
-        9,
-        9,
-        9,
-        9,
-    ];
-    let none = counted(tally, 1, decoded(front(&state, 0)));
-    let few = counted(none, 1, decoded(front(&state, 19)));
-    let no_head = counted(few, 4, decoded(front(&state, 20)));
-    let half_head = counted(no_head, 4, decoded(front(&state, 21)));
-    let no_body = counted(half_head, 4, decoded(front(&state, 22)));
-    let one_short = counted(no_body, 4, decoded(front(&state, 25)));
-    counted(one_short, 0, decoded(&state))
+    let none = state_cut(tally, 0, 1);
+    let few = state_cut(none, 19, 1);
+    let no_head = state_cut(few, 20, 4);
+    let half_head = state_cut(no_head, 21, 4);
+    let no_body = state_cut(half_head, 22, 4);
+    let one_short = state_cut(no_body, 25, 4);
+    state_cut(one_short, 26, 0)
 }
 
-fn header() -> Header {
-    Header {
-        packet_type: PacketType::State,
-        conn_id: 1,
-        ts_micros: 2,
-        ts_diff_micros: 3,
-        window_size: 4,
-        seq_num: SeqNum(5),
-        ack_num: SeqNum(6),
-    }
-}
+// A record of encode.bin: a State of 20 bytes, with room, answer and count still to be set.
+const RECORD: [u8; 53] =
+    *b"\x02\x00\x01\x00\x00\x00\x02\x00\x00\x00\x03\x00\x00\x00\x04\x00\x05\x00\x06\x00\x00\x00\x00\
+    \x00\x00\x00\x00\x00\x02\x00\x00\x00\x00\
+    \x21\x00\x00\x01\x00\x00\x00\x02\x00\x00\x00\x03\x00\x00\x00\x04\x00\x05\x00\x06";
 
-// A State of 20 bytes written into room of a size: the answer, and whether all past the packet, or on a
+// The State written into room of a size: the answer, what is written, and whether all past it, or on a
 // refusal the whole room, is as it was.
-fn room_of(tally: Tally, buffer: &mut [u8], count: usize, expected: u64) -> Tally {
-    let none = [0u8; 1];
-    let found = write(header(), front(&none, 0), front(&none, 0), buffer, count);
-    let is_same = both(
-        found.number == expected,
-        is_untouched(buffer, found.written, count),
-    );
-    tally.counted(expected, is_same)
+fn room_of(tally: Tally, room: u8, answer: u8, count: u8) -> Tally {
+    let mut buffer = [0u8; 64];
+    let mut record = RECORD;
+    record[26] = room;
+    record[27] = answer;
+    record[32] = count;
+    encode_list::counted(tally, &record, &mut buffer)
 }
 
 fn rooms(tally: Tally) -> Tally {
-    let mut buffer = [0u8; 64];
-    let none = room_of(tally, &mut buffer, 0, 9);
-    let one = room_of(none, &mut buffer, 1, 9);
-    let short = room_of(one, &mut buffer, 19, 9);
-    let full = room_of(short, &mut buffer, 20, 0);
-    room_of(full, &mut buffer, 64, 0)
+    let none = room_of(tally, 0, 9, 0);
+    let one = room_of(none, 1, 9, 0);
+    let short = room_of(one, 19, 9, 0);
+    let full = room_of(short, 20, 0, 20);
+    room_of(full, 64, 0, 20)
 }
 
 fn part(tally: Tally, at: usize, len: usize, expected: usize) -> Tally {
@@ -157,24 +127,29 @@ fn parts(tally: Tally) -> Tally {
     part(long, usize::MAX, usize::MAX, 0)
 }
 
+// A mask of document 01, P3.
+const MASK: [u8; 4] = [5, 0, 0, 128];
+
 fn bit(tally: Tally, at: usize, expected: bool) -> Tally {
-    let mask = [5u8, 0, 0, 128];
-    tally.counted(0, is_set(&mask, at) == expected)
+    tally.counted(0, is_set(&MASK, at) == expected)
 }
 
-// The bits of `05 00 00 80` (document 01, P3) and those around and beyond them.
+// The first so many bytes of it: how many bits they have, and whether they have one at 0.
+fn bits_of(tally: Tally, len: usize, expected: usize) -> Tally {
+    let mask = front(&MASK, len);
+    let whole = tally.counted(0, bit_count(mask) == expected);
+    whole.counted(0, is_set(mask, 0) == (0 < expected))
+}
+
+// Its bits, those around and beyond them, and those of no bytes.
 fn bits(tally: Tally) -> Tally {
-    let first = bit(tally, 0, true);
-    let second = bit(first, 1, false);
+    let second = bit(tally, 1, false);
     let third = bit(second, 2, true);
     let before = bit(third, 30, false);
     let last = bit(before, 31, true);
     let past = bit(last, 32, false);
     let far = bit(past, usize::MAX, false);
-    let mask = [255u8; 4];
-    let none = far.counted(0, bit_count(front(&mask, 0)) == 0);
-    let whole = none.counted(0, bit_count(&mask) == 32);
-    whole.counted(0, !is_set(front(&mask, 0), 0))
+    bits_of(bits_of(far, 0, 0), 4, 32)
 }
 
 fn number(tally: Tally, ack: u16, at: usize, expected: u16) -> Tally {
@@ -197,7 +172,7 @@ fn length(tally: Tally, len: usize, expected: u64) -> Tally {
         Checked::Fine(_) => 0,
         Checked::Bad(reason) => of_sack(reason),
     };
-    counted(tally, expected, found)
+    tally.counted(expected, found == expected)
 }
 
 // SACK lengths at each edge.

@@ -1,60 +1,51 @@
 // Ranges of sequence numbers: the walk upward modulo 65,536, and `contains` held against it.
-use packet::seq::CircularRangeInclusive;
-use packet::seq::SeqNum;
-use packet::seq::Step;
 use report::tally::Tally;
+use std::num::wrapping_add_u16;
+use std::num::wrapping_sub_u16;
+use wire::seq::CircularRangeInclusive;
+use wire::seq::SeqNum;
+use wire::seq::Step;
 
-// What a walk met: how many numbers, whether each was the one before it plus one, and whether the item
-// that was looked for was among them.
+// A walk under way: whether each number was the one before it plus one, and whether the item that is
+// looked for was among them.
 struct Walk {
     range: CircularRangeInclusive,
-    count: u64,
-    expected: SeqNum,
     is_upward: bool,
     is_met: bool,
-    is_done: bool,
 }
 
-fn step(walk: Walk, item: SeqNum) -> Walk {
+fn step(walk: Walk, expected: u16, item: u16) -> Walk {
     let range = walk.range;
     match range.next() {
-        Step::Done => {
-            let expected = walk.expected;
-            Walk {
-                range,
-                count: walk.count,
-                expected,
-                is_upward: walk.is_upward,
-                is_met: walk.is_met,
-                is_done: true,
-            }
-        }
+        Step::Done => Walk {
+            range,
+            is_upward: false,
+            is_met: walk.is_met,
+        },
         Step::Item(number, rest) => Walk {
             range: rest,
-            count: std::num::wrapping_add_u64(walk.count, 1),
-            expected: number.plus(1),
-            is_upward: walk.is_upward && number.0 == walk.expected.0,
-            is_met: walk.is_met || number.0 == item.0,
-            is_done: false,
+            is_upward: walk.is_upward & (number.0 == expected),
+            is_met: walk.is_met | (number.0 == item),
         },
     }
 }
 
-// Walks a range to its end. No range has more than 65,536 numbers.
-fn walked(start: SeqNum, end: SeqNum, item: SeqNum) -> Walk {
+fn is_ended(range: CircularRangeInclusive) -> bool {
+    match range.next() {
+        Step::Done => true,
+        Step::Item(_, _) => false,
+    }
+}
+
+// Walks so many numbers of a range.
+fn walked(range: CircularRangeInclusive, start: u16, length: u64, item: u16) -> Walk {
     let mut walk = Walk {
-        range: CircularRangeInclusive::new(start, end),
-        count: 0,
-        expected: start,
+        range,
         is_upward: true,
         is_met: false,
-        is_done: false,
     };
-    for _ in 0..65537u64 {
-        walk = step(walk, item);
-        if walk.is_done {
-            return walk;
-        }
+    for i in 0..length {
+        walk = step(walk, wrapping_add_u16(start, (i % 65536) as u16), item);
     }
     walk
 }
@@ -62,13 +53,10 @@ fn walked(start: SeqNum, end: SeqNum, item: SeqNum) -> Walk {
 // A walk from `start` to `end` meets the right count of numbers, each one up from the last, and meets
 // `item` exactly where `contains` says so.
 fn is_right(start: u16, end: u16, item: u16) -> bool {
-    let walk = walked(SeqNum(start), SeqNum(end), SeqNum(item));
-    let length = std::num::wrapping_sub_u16(end, start) as u64 + 1;
     let range = CircularRangeInclusive::new(SeqNum(start), SeqNum(end));
-    walk.is_done
-        && walk.is_upward
-        && walk.count == length
-        && walk.is_met == range.contains(SeqNum(item))
+    let length = wrapping_sub_u16(end, start) as u64 + 1;
+    let walk = walked(range, start, length, item);
+    walk.is_upward & is_ended(walk.range) & (walk.is_met == range.contains(SeqNum(item)))
 }
 
 fn checked(tally: Tally, start: u16, end: u16, item: u16) -> Tally {
@@ -93,23 +81,29 @@ fn next_seed(seed: u64) -> u64 {
     (seed % 4294967296 * 1103515245 + 12345) % 4294967296
 }
 
-// A range of up to 4,096 numbers, and an item from 2,048 before its start to 6,143 behind it.
-fn near(tally: Tally, seed: u64) -> Tally {
-    let start = (seed / 65536 % 65536) as u16;
-    let length = (next_seed(seed) / 65536 % 4096) as u16;
-    let distance = (next_seed(next_seed(seed)) / 65536 % 8192) as u16;
-    let end = std::num::wrapping_add_u16(start, length);
-    let before = std::num::wrapping_sub_u16(start, 2048);
-    let item = std::num::wrapping_add_u16(before, distance);
-    checked(tally, start, end, item)
+// The high half of such a number.
+fn drawn(seed: u64) -> u16 {
+    (seed / 65536 % 65536) as u16
 }
 
-// Any range and any item.
-fn far(tally: Tally, seed: u64) -> Tally {
-    let start = (seed / 65536 % 65536) as u16;
-    let end = (next_seed(seed) / 65536 % 65536) as u16;
-    let item = (next_seed(next_seed(seed)) / 65536 % 65536) as u16;
-    checked(tally, start, end, item)
+// A range of up to 4,096 numbers, and an item from 2,048 before its start to 6,143 behind it.
+fn is_near_right(start: u16, second: u16, third: u16) -> bool {
+    let end = wrapping_add_u16(start, second % 4096);
+    let before = wrapping_sub_u16(start, 2048);
+    is_right(start, end, wrapping_add_u16(before, third % 8192))
+}
+
+// Every fiftieth is any range and any item.
+fn is_drawn_right(seed: u64, i: u64) -> bool {
+    let next = next_seed(seed);
+    let start = drawn(seed);
+    let second = drawn(next);
+    let third = drawn(next_seed(next));
+    if i % 50 == 0 {
+        is_right(start, second, third)
+    } else {
+        is_near_right(start, second, third)
+    }
 }
 
 pub fn all() -> Tally {
@@ -117,16 +111,7 @@ pub fn all() -> Tally {
     let mut seed = 1;
     for i in 0..4000 {
         seed = next_seed(next_seed(next_seed(seed)));
-        tally = triple(tally, seed, i);
+        tally = tally.counted(0, is_drawn_right(seed, i));
     }
     tally
-}
-
-// Every fiftieth is any range.
-fn triple(tally: Tally, seed: u64, i: u64) -> Tally {
-    if i % 50 == 0 {
-        far(tally, seed)
-    } else {
-        near(tally, seed)
-    }
 }

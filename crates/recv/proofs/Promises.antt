@@ -21,8 +21,11 @@ use Rattle.recv.proofs.ReceiveBuffer.count.Reads as count
 use Rattle.recv.proofs.ReceiveBuffer.ready.Reads as ready
 use Rattle.recv.proofs.ReceiveBuffer.waiting.Reads as waiting
 use Rattle.recv.proofs.ReceiveBuffer.waiting_bytes.Reads as waiting-bytes
-use Rattle.recv.proofs.write_in.Reads as write-in
-use Rattle.recv.proofs.read_in.Reads as read-in
+use Rattle.recv.specs.Lent.{countsOf}
+use Rattle.recv.specs.declared.StepWrite.{StepWrite}
+use Rattle.recv.specs.declared.StepRead.{StepRead}
+use Rattle.recv.proofs.Counts.write_in.Reads as write-in
+use Rattle.recv.proofs.Counts.read_in.Reads as read-in
 
 new-promise : Promise new.Pre new.Post (λ κs r s. r)
 new-promise = by-value _ (λ κs a. tt) (λ κs a r s p. p)
@@ -63,8 +66,10 @@ waiting-promise = by-value _ (λ κs a. tt) (λ κs a r s p. p)
 waiting-bytes-promise : Promise waiting-bytes.Pre waiting-bytes.Post (λ κs r s. r)
 waiting-bytes-promise = by-value _ (λ κs a. tt) (λ κs a r s p. p)
 
-write-in-promise : Promise {W = Writing × ℕ × ℕ × ℕ × List ℕ × List ℕ} write-in.Pre write-in.Post (λ κs r s. (r, now (s .1 .1 .0), now (s .1 .1 .1 .0), now (s .1 .1 .1 .1 .0), now (s .1 .1 .1 .1 .1 .0), now (s .1 .1 .1 .1 .1 .1 .0)))
-write-in-promise = by-value _ (λ κs a. tt) (λ κs a r s p. λ i. (p .0 i .answer, p .0 i .state .count, p .0 i .state .ready, p .0 i .state .span, p .0 i .state .waiting, p .1 i))
+-- The answer and the counts, the table and the buffer.
+write-in-promise : Promise {W = StepWrite × List ℕ × List ℕ} write-in.Pre write-in.Post (λ κs r s. (r, now (s .1 .0), now (s .1 .1 .0)))
+write-in-promise = by-value _ (λ κs a. tt) (λ κs a r s p. λ i. (record { answer = p .0 i .answer; counts = countsOf (p .0 i .state) }, p .0 i .state .waiting, p .1 i))
 
-read-in-promise : Promise {W = Count × ℕ × List ℕ × List ℕ} read-in.Pre read-in.Post (λ κs r s. (r, now (s .1 .1 .1 .0), now (s .1 .1 .1 .1 .1 .1 .0), now (s .1 .1 .1 .1 .1 .1 .1 .0)))
-read-in-promise = by-value _ (λ κs a. tt) (λ κs a r s p. λ i. (p .0 i .answer, p .0 i .state .ready, p .1 i, p .2 i))
+-- The answer and the ready count, the buffer and the output.
+read-in-promise : Promise {W = StepRead × List ℕ × List ℕ} read-in.Pre read-in.Post (λ κs r s. (r, now (s .1 .1 .0), now (s .1 .1 .1 .0)))
+read-in-promise = by-value _ (λ κs a. tt) (λ κs a r s p. λ i. (record { answer = p .0 i .answer; ready = p .0 i .state .ready }, p .1 i, p .2 i))

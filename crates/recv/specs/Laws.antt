@@ -7,7 +7,6 @@ pub mod Steps
 pub mod Answers
 pub mod Payloads
 pub mod Stored
-pub mod Lent
 pub mod Reading
 pub mod Sack
 pub mod Numbers

@@ -2,7 +2,7 @@
 use Prim.Native.Nat.{ℕ, _<_, _^_}
 use mathlib.Core.List.{List}
 use mathlib.Core.Path.{_≡_}
-use Rattle.packet.specs.declared.seq.SeqNum.{SeqNum}
+use Rattle.wire.specs.declared.seq.SeqNum.{SeqNum}
 use Rattle.recv.specs.State.{tableOf}
 use Rattle.recv.specs.Table.{bytesIn}
 use Rattle.recv.specs.declared.Counts.{Counts}
@@ -19,6 +19,9 @@ stateIn initial size count ready span table = record { initial = initial; length
 -- from its counts and its table
 abbrev pub whole : Counts → List ℕ → ReceiveBuffer
 whole c table = record { initial = c .initial; length = c .length; count = c .count; ready = c .ready; span = c .span; waiting = table }
+
+abbrev pub countsOf : ReceiveBuffer → Counts
+countsOf s = record { initial = s .initial; length = s .length; count = s .count; ready = s .ready; span = s .span }
 
 -- what a write or a read in place answers; a read changes the ready count alone
 abbrev pub wholeWritten : StepWrite → List ℕ → Written

@@ -1,6 +1,6 @@
 // The receiver: payloads that arrive in any order, handed out in order, over a buffer of bytes that
 // the caller lends to every call (document 01, "Receiving").
-use packet::seq::SeqNum;
+use wire::seq::SeqNum;
 
 mod bytes;
 mod sack;
@@ -98,24 +98,25 @@ pub enum Number {
 }
 
 // A receiver apart from its table, which is lent beside it.
-struct Counts {
-    initial: SeqNum,
-    length: u32,
-    count: u32,
-    ready: u32,
-    span: u32,
+#[repr(C)]
+pub struct Counts {
+    pub initial: SeqNum,
+    pub length: u32,
+    pub count: u32,
+    pub ready: u32,
+    pub span: u32,
 }
 
 // The answer of a write in place, and beside it the counts.
-struct StepWrite {
-    answer: Writing,
-    counts: Counts,
+pub struct StepWrite {
+    pub answer: Writing,
+    pub counts: Counts,
 }
 
 // The answer of a read in place, and beside it how many bytes are ready: nothing else changes.
-struct StepRead {
-    answer: Count,
-    ready: u32,
+pub struct StepRead {
+    pub answer: Count,
+    pub ready: u32,
 }
 
 // What the calls do, with the table lent: nothing of it is copied, and only what changes is written.
@@ -216,7 +217,12 @@ impl Counts {
     // then. Nothing moves where n is 0. The table is lent because the promise speaks of it.
     fn take(self, waiting: &[u32; 256], held: u64, buf: &mut [u8], out: &mut [u8], n: usize) -> u32
         requires { ⌜ (Takes (whole self (now waiting)) (now buf) (now out) n) × (Held (whole self (now waiting)) held) ⌝ }
-        ensures { λ r. ⌜ (stateIn (self .initial) (self .length) (self .count) r (self .span) (now (waiting .entry)) ≡ stateOf (now (waiting .entry)) (readOf (receiverOf (whole self (now (waiting .entry))) (now (buf .entry))) n)) × (now (buf .exit) ≡ roomOf (now (buf .entry)) (readOf (receiverOf (whole self (now (waiting .entry))) (now (buf .entry))) n)) × (now (out .exit) ≡ over (take n (receiverOf (whole self (now (waiting .entry))) (now (buf .entry)) .ready)) (now (out .entry))) ⌝ }
+        ensures { λ r. let s = whole self (now (waiting .entry)) in
+            let receiver = receiverOf s (now (buf .entry)) in
+            let after = readOf receiver n in
+            ⌜ (stateIn (self .initial) (self .length) (self .count) r (self .span) (now (waiting .entry)) ≡ stateOf (now (waiting .entry)) after)
+            × (now (buf .exit) ≡ roomOf (now (buf .entry)) after)
+            × (now (out .exit) ≡ over (take n (receiver .ready)) (now (out .entry))) ⌝ }
     {
         if n == 0 {
             return self.ready;
@@ -290,7 +296,10 @@ impl Counts {
         payload: &[u8],
     ) -> Counts
         requires { ⌜ (answerOf (whole self (now waiting)) (length (now buf)) number (length (now payload)) ≡ Writing.Stored) × (length (now waiting) ≡ 256) × (Held (whole self (now waiting)) held) ⌝ }
-        ensures { λ r. ⌜ (whole r (now (waiting .exit)) ≡ stateOf (now (waiting .entry)) (afterWrite (whole self (now (waiting .entry))) (now (buf .entry)) number (now (payload .entry)))) × (now (buf .exit) ≡ roomOf (now (buf .entry)) (afterWrite (whole self (now (waiting .entry))) (now (buf .entry)) number (now (payload .entry)))) ⌝ }
+        ensures { λ r. let s = whole self (now (waiting .entry)) in
+            let after = afterWrite s (now (buf .entry)) number (now (payload .entry)) in
+            ⌜ (whole r (now (waiting .exit)) ≡ stateOf (now (waiting .entry)) after)
+            × (now (buf .exit) ≡ roomOf (now (buf .entry)) after) ⌝ }
     {
         let initial = self.initial;
         let offset = number.offset_from(initial);
@@ -315,7 +324,9 @@ impl Counts {
         payload: &[u8],
     ) -> StepWrite
         requires { ⌜ length (now waiting) ≡ 256 ⌝ }
-        ensures { λ r. ⌜ (wholeWritten r (now (waiting .exit)) ≡ writtenOf (whole self (now (waiting .entry))) (now (buf .entry)) number (now (payload .entry))) × (now (buf .exit) ≡ writtenRoomOf (whole self (now (waiting .entry))) (now (buf .entry)) number (now (payload .entry))) ⌝ }
+        ensures { λ r. let s = whole self (now (waiting .entry)) in
+            ⌜ (wholeWritten r (now (waiting .exit)) ≡ writtenOf s (now (buf .entry)) number (now (payload .entry)))
+            × (now (buf .exit) ≡ writtenRoomOf s (now (buf .entry)) number (now (payload .entry))) ⌝ }
     {
         let held = self.held(waiting);
         let answer = self.writing(waiting, held, buf.len(), number, payload.len());
@@ -341,7 +352,10 @@ impl Counts {
     // Reads the oldest ready bytes into `out`, as many as there are and fit.
     fn read(self, waiting: &[u32; 256], buf: &mut [u8], out: &mut [u8]) -> StepRead
         requires { ⌜ length (now waiting) ≡ 256 ⌝ }
-        ensures { λ r. ⌜ (wholeTaken self r (now (waiting .entry)) ≡ takenOf (whole self (now (waiting .entry))) (now (buf .entry)) (now (out .entry))) × (now (buf .exit) ≡ takenRoomOf (whole self (now (waiting .entry))) (now (buf .entry)) (now (out .entry))) × (now (out .exit) ≡ takenOutOf (whole self (now (waiting .entry))) (now (buf .entry)) (now (out .entry))) ⌝ }
+        ensures { λ r. let s = whole self (now (waiting .entry)) in
+            ⌜ (wholeTaken self r (now (waiting .entry)) ≡ takenOf s (now (buf .entry)) (now (out .entry)))
+            × (now (buf .exit) ≡ takenRoomOf s (now (buf .entry)) (now (out .entry)))
+            × (now (out .exit) ≡ takenOutOf s (now (buf .entry)) (now (out .entry))) ⌝ }
     {
         let held = self.held(waiting);
         if !self.is_sound(waiting, held) {
@@ -362,6 +376,34 @@ impl Counts {
             answer: Count::Is(n),
             ready,
         }
+    }
+
+    // `ReceiveBuffer::write` where the table stays in place, and only what changes is written.
+    // Refusals: 19, 18, 15, 16, 17.
+    pub fn write_in(
+        self,
+        waiting: &mut [u32; 256],
+        buf: &mut [u8],
+        number: SeqNum,
+        payload: &[u8],
+    ) -> StepWrite
+        ensures { λ r. let s = whole self (now (waiting .entry)) in
+            ⌜ (wholeWritten r (now (waiting .exit)) ≡ writtenOf s (now (buf .entry)) number (now (payload .entry)))
+            × (now (buf .exit) ≡ writtenRoomOf s (now (buf .entry)) number (now (payload .entry))) ⌝ }
+    {
+        tell_places(*waiting);
+        self.write(waiting, buf, number, payload)
+    }
+
+    // `ReceiveBuffer::read` where the table stays in place. Refusals: 19, 18.
+    pub fn read_in(self, waiting: &[u32; 256], buf: &mut [u8], out: &mut [u8]) -> StepRead
+        ensures { λ r. let s = whole self (now (waiting .entry)) in
+            ⌜ (wholeTaken self r (now (waiting .entry)) ≡ takenOf s (now (buf .entry)) (now (out .entry)))
+            × (now (buf .exit) ≡ takenRoomOf s (now (buf .entry)) (now (out .entry)))
+            × (now (out .exit) ≡ takenOutOf s (now (buf .entry)) (now (out .entry))) ⌝ }
+    {
+        tell_places(*waiting);
+        self.read(waiting, buf, out)
     }
 }
 
@@ -503,7 +545,7 @@ impl ReceiveBuffer {
     {
         if self.is_sound() {
             let initial = self.initial;
-            Number::Is(initial.plus((self.count % 65536) as u16))
+            Number::Is(initial.at(self.count))
         } else {
             Number::Refused(Refusal::NotSound)
         }
@@ -523,7 +565,7 @@ impl ReceiveBuffer {
             return Count::Refused(Refusal::RoomTooSmall);
         }
         let initial = self.initial;
-        let ack = initial.plus((self.count % 65536) as u16);
+        let ack = initial.at(self.count);
         sack::fill(&self.waiting, span, ack, room, n);
         Count::Is(n)
     }
@@ -571,68 +613,6 @@ impl ReceiveBuffer {
             Count::Refused(Refusal::NotSound)
         }
     }
-}
-
-// `write` where the receiver stays in place: its fields are lent, and only what changes is written.
-// Refusals: 19, 18, 15, 16, 17.
-pub fn write_in(
-    initial: SeqNum,
-    length: u32,
-    count: &mut u32,
-    ready: &mut u32,
-    span: &mut u32,
-    waiting: &mut [u32; 256],
-    buf: &mut [u8],
-    number: SeqNum,
-    payload: &[u8],
-) -> Writing
-    ensures { λ r. ⌜ (record { answer = r; state = stateIn initial length (now (count .exit)) (now (ready .exit)) (now (span .exit)) (now (waiting .exit)) } ≡ writtenOf (stateIn initial length (now (count .entry)) (now (ready .entry)) (now (span .entry)) (now (waiting .entry))) (now (buf .entry)) number (now (payload .entry)))
-        × (now (buf .exit) ≡ writtenRoomOf (stateIn initial length (now (count .entry)) (now (ready .entry)) (now (span .entry)) (now (waiting .entry))) (now (buf .entry)) number (now (payload .entry))) ⌝ }
-{
-    let table = *waiting;
-    tell_places(table);
-    let counts = Counts {
-        initial,
-        length,
-        count: *count,
-        ready: *ready,
-        span: *span,
-    };
-    let step = counts.write(waiting, buf, number, payload);
-    let after = step.counts;
-    *count = after.count;
-    *ready = after.ready;
-    *span = after.span;
-    step.answer
-}
-
-// `read` where the receiver stays in place: of its fields only the ready count changes. Refusals: 19, 18.
-pub fn read_in(
-    initial: SeqNum,
-    length: u32,
-    count: u32,
-    ready: &mut u32,
-    span: u32,
-    waiting: &[u32; 256],
-    buf: &mut [u8],
-    out: &mut [u8],
-) -> Count
-    ensures { λ r. ⌜ (record { answer = r; state = stateIn initial length count (now (ready .exit)) span (now (waiting .entry)) } ≡ takenOf (stateIn initial length count (now (ready .entry)) span (now (waiting .entry))) (now (buf .entry)) (now (out .entry)))
-        × (now (buf .exit) ≡ takenRoomOf (stateIn initial length count (now (ready .entry)) span (now (waiting .entry))) (now (buf .entry)) (now (out .entry)))
-        × (now (out .exit) ≡ takenOutOf (stateIn initial length count (now (ready .entry)) span (now (waiting .entry))) (now (buf .entry)) (now (out .entry))) ⌝ }
-{
-    let table = *waiting;
-    tell_places(table);
-    let counts = Counts {
-        initial,
-        length,
-        count,
-        ready: *ready,
-        span,
-    };
-    let step = counts.read(waiting, buf, out);
-    *ready = step.ready;
-    step.answer
 }
 
 // Tells of a table by value that it has 256 places, which a lent one does not tell. Nothing is done.

@@ -1,12 +1,12 @@
 // The selective ACK, built plainly, bit by bit, from the table of waiting lengths.
-use packet::seq::Offset;
-use packet::seq::SeqNum;
+use wire::seq::Offset;
+use wire::seq::SeqNum;
 ghost use mathlib.Core.Path.{_≡_};
 ghost use mathlib.Core.Bool.{cond};
 ghost use Prim.Native.Nat.{_+_, _-_, _*_, _/_, _≤_, _<_};
 ghost use lib.ListN.{length, take, getD};
 ghost use lib.Seq.{paste};
-ghost use Rattle.packet.specs.Seq.{offsetOf};
+ghost use Rattle.wire.specs.Seq.{offsetOf};
 ghost use Rattle.recv.specs.Table.{waits, sackByteOf, sackLengthOf, sackOf};
 
 // How many bytes the selective ACK of a table of `span` places has: its bits padded to 32.

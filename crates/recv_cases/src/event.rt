@@ -1,24 +1,28 @@
-// The events of a session. Each takes its input from the list, calls the receiver, and holds what it
-// answers against the list.
-use feed::Feed;
-use feed::Held;
-use feed::both;
-use packet::seq::SeqNum;
+// The events of a session, each a record of the list (oracle/README.md). Each takes its input from the
+// record, calls the receiver, and holds what it answers against the record.
+ghost use Prim.Native.Nat.{_≤_};
+use list::behind;
+use list::behind_part;
+use list::fill;
+use list::four;
+use list::holds;
+use list::number;
+use list::part;
+use list::tells;
+use list::two;
 use recv::Count;
 use recv::Number;
 use recv::ReceiveBuffer;
 use recv::Refusal;
 use recv::Truth;
 use recv::Writing;
-use recv::Written;
 use report::text::front;
+use wire::seq::SeqNum;
 
-// An event that was compared, and the receiver after it.
+// The receiver after an event, and whether all that it answered is as recorded.
 pub struct Step {
     pub state: ReceiveBuffer,
-    pub answer: u64,
     pub is_same: bool,
-    pub feed: Feed,
 }
 
 pub fn number_of_refusal(refusal: Refusal) -> u64 {
@@ -91,296 +95,182 @@ fn numbered(number: Number) -> u64 {
     }
 }
 
-fn pattern(at: usize) -> u8 {
-    (at % 251) as u8
+// The event's kind, 1 to 5. A kind that there is not counts as a run, and differs.
+pub fn kind_of(event: &[u8]) -> u64 {
+    let kind = number(event, 0, 1);
+    if kind == 0 || kind > 5 { 5 } else { kind }
 }
 
-fn fill_one(room: &mut [u8], i: usize) {
-    if i < room.len() {
-        room[i] = pattern(i);
+// How many bytes were read.
+fn read_len(event: &[u8]) -> usize
+    ensures { λ r. ⌜ r ≤ 65536 ⌝ }
+{
+    (number(event, 7, 4) % 65537) as usize
+}
+
+// How many bytes the event has.
+pub fn size_of(event: &[u8]) -> usize {
+    match kind_of(event) {
+        1 => 12 + two(event, 3) as usize,
+        2 => 15 + read_len(event),
+        3 => 9 + two(event, 7) as usize,
+        4 => 23,
+        _ => 7,
     }
 }
 
-fn fill(room: &mut [u8], count: usize) {
-    for i in 0..count {
-        fill_one(room, i);
+// The recorded answer.
+pub fn answer_of(event: &[u8]) -> u64 {
+    match kind_of(event) {
+        1 => number(behind_part(behind(event, 3)), 0, 1),
+        2 => number(event, 5, 1),
+        _ => number(event, 3, 1),
     }
 }
 
-fn is_pattern(room: &[u8], i: usize) -> bool {
-    if i < room.len() {
-        room[i] == pattern(i)
+// Behind a write's payload: answer, source, already there, available.
+fn is_written(state: ReceiveBuffer, writing: Writing, seen: &[u8]) -> bool {
+    let answer = of_writing(writing);
+    let is_equal = tells(seen, 0, 1, answer.number) & tells(seen, 2, 1, answer.value);
+    is_equal & tells(seen, 3, 4, counted(state.available()))
+}
+
+// Kind 1: number, payload.
+fn write(state: ReceiveBuffer, event: &[u8], buf: &mut [u8]) -> Step {
+    let payload = behind(event, 3);
+    let written = state.write(buf, SeqNum(two(event, 1)), part(payload));
+    let state = written.state;
+    let writing = written.answer;
+    Step {
+        state,
+        is_same: is_written(state, writing, behind_part(payload)),
+    }
+}
+
+// Behind a read's output length: answer, source, count and that many bytes, available.
+fn is_read(state: ReceiveBuffer, answer: Answer, event: &[u8], out: &[u8]) -> bool {
+    let len = read_len(event);
+    let is_equal = tells(event, 5, 1, answer.number) & tells(event, 7, 4, answer.value);
+    let is_held = holds(out, front(behind(event, 11), len));
+    is_equal & is_held & tells(event, 11 + len, 4, counted(state.available()))
+}
+
+fn read_into(state: ReceiveBuffer, event: &[u8], buf: &mut [u8], out: &mut [u8]) -> Step {
+    fill(out);
+    let taken = state.read(buf, out);
+    let state = taken.state;
+    let count = taken.answer;
+    Step {
+        state,
+        is_same: is_read(state, of_count(count), event, out),
+    }
+}
+
+// Kind 2: as many bytes as the output holds. It lends an output of just the length asked for.
+fn read(state: ReceiveBuffer, event: &[u8], buf: &mut [u8], out: &mut [u8]) -> Step {
+    let room = four(event, 1) as usize;
+    if room <= out.len() {
+        read_into(state, event, buf, &mut out[..room])
+    } else {
+        Step {
+            state,
+            is_same: false,
+        }
+    }
+}
+
+// Behind the room for a SACK: answer, source, ack number, the SACK's length and bytes.
+fn is_acked_into(state: ReceiveBuffer, event: &[u8], out: &mut [u8]) -> bool {
+    fill(out);
+    let count = state.selective_ack(out);
+    let answer = of_count(count);
+    let is_equal = tells(event, 3, 1, answer.number) & tells(event, 7, 2, answer.value);
+    let is_held = holds(out, part(behind(event, 7)));
+    is_equal & is_held & tells(event, 5, 2, numbered(state.ack_num()))
+}
+
+// Kind 3: the ack number and the selective ACK. It lends room of just the length asked for.
+fn is_acked(state: ReceiveBuffer, event: &[u8], out: &mut [u8]) -> bool {
+    let room = two(event, 1) as usize;
+    if room <= out.len() {
+        is_acked_into(state, event, &mut out[..room])
     } else {
         false
     }
 }
 
-fn is_untouched(room: &[u8], from: usize, to: usize) -> bool {
-    for i in from..to {
-        if !is_pattern(room, i) {
-            return false;
-        }
-    }
-    true
+// Kind 4, what a caller may ask: number, answer, source, was it written, is it empty, available, ready,
+// waiting bytes, waiting payloads, c.
+fn is_told(state: ReceiveBuffer, event: &[u8]) -> bool {
+    let number = SeqNum(two(event, 1));
+    tells(event, 3, 1, 0)
+        & tells(event, 5, 1, told(state.was_written(number)))
+        & tells(event, 6, 1, told(state.is_empty()))
+        & tells(event, 7, 4, counted(state.available()))
+        & tells(event, 11, 4, counted(state.ready()))
+        & tells(event, 15, 4, counted(state.waiting_bytes()))
+        & tells(event, 19, 2, counted(state.waiting()))
+        & tells(event, 21, 2, counted(state.count()))
 }
-
-const WRITE: [u8; 2] = [2, 2];
-
-// Behind a write's payload: answer, source, already there, available.
-const WRITE_SEEN: [u8; 4] = [1, 1, 1, 4];
-
-fn seen_write(written: Written, feed: Feed, window: &mut [u8]) -> Step {
-    let mut seen = [0u64; 4];
-    let behind = feed.numbers(window, &WRITE_SEEN, &mut seen);
-    let state = written.state;
-    let writing = written.answer;
-    let answer = of_writing(writing);
-    let is_equal = both(answer.number == seen[0], answer.value == seen[2]);
-    Step {
-        state,
-        answer: seen[0],
-        is_same: both(is_equal, counted(state.available()) == seen[3]),
-        feed: behind,
-    }
-}
-
-// A write that was taken from the list: its number, and the length of its payload.
-struct Asked {
-    number: u16,
-    len: usize,
-    feed: Feed,
-}
-
-fn take_write(feed: Feed, window: &mut [u8], payload: &mut [u8]) -> Asked {
-    let mut input = [0u64; 2];
-    let head = feed.numbers(window, &WRITE, &mut input);
-    let len = (input[1] % 65536) as usize;
-    Asked {
-        number: (input[0] % 65536) as u16,
-        len,
-        feed: head.bytes(window, payload, len),
-    }
-}
-
-// Kind 1: number, payload.
-pub fn write(
-    state: ReceiveBuffer,
-    feed: Feed,
-    window: &mut [u8],
-    buf: &mut [u8],
-    payload: &mut [u8],
-) -> Step {
-    let asked = take_write(feed, window, payload);
-    let written = state.write(buf, SeqNum(asked.number), front(payload, asked.len));
-    seen_write(written, asked.feed, window)
-}
-
-// Output length, answer, source, count.
-const READ: [u8; 4] = [4, 1, 1, 4];
-
-// Lends the first `count` bytes of `out`, filled with the pattern.
-fn read_into(state: ReceiveBuffer, buf: &mut [u8], out: &mut [u8], count: usize) -> recv::Taken {
-    fill(out, count);
-    if count <= out.len() {
-        state.read(buf, &mut out[..count])
-    } else {
-        state.read(buf, out)
-    }
-}
-
-fn held_out(feed: Feed, window: &mut [u8], out: &[u8], size: usize, room: usize) -> Held {
-    let held = feed.held(window, front(out, size));
-    let behind = held.feed;
-    Held {
-        is_same: both(held.is_same, is_untouched(out, size, room)),
-        feed: behind,
-    }
-}
-
-// Kind 2: as many bytes as the output holds, and behind them what is then available.
-pub fn read(
-    state: ReceiveBuffer,
-    feed: Feed,
-    window: &mut [u8],
-    buf: &mut [u8],
-    out: &mut [u8],
-) -> Step {
-    let mut input = [0u64; 4];
-    let head = feed.numbers(window, &READ, &mut input);
-    read_taken(state, input, head, window, buf, out)
-}
-
-fn read_taken(
-    state: ReceiveBuffer,
-    input: [u64; 4],
-    feed: Feed,
-    window: &mut [u8],
-    buf: &mut [u8],
-    out: &mut [u8],
-) -> Step {
-    let room = (input[0] % 65537) as usize;
-    let size = (input[3] % 65537) as usize;
-    let taken = read_into(state, buf, out, room);
-    let next = taken.state;
-    let count = taken.answer;
-    seen_read(
-        next,
-        of_count(count),
-        input,
-        feed,
-        window,
-        front(out, room),
-        size,
-    )
-}
-
-fn seen_read(
-    state: ReceiveBuffer,
-    answer: Answer,
-    input: [u64; 4],
-    feed: Feed,
-    window: &mut [u8],
-    out: &[u8],
-    size: usize,
-) -> Step {
-    let held = held_out(feed, window, out, size, out.len());
-    let available = held.feed.number(window, 4);
-    let behind = available.feed;
-    let is_equal = both(answer.number == input[1], answer.value == input[3]);
-    let is_shown = both(held.is_same, counted(state.available()) == available.value);
-    Step {
-        state,
-        answer: input[1],
-        is_same: both(is_equal, is_shown),
-        feed: behind,
-    }
-}
-
-// Room for the SACK, answer, source, ack number, the SACK's length.
-const ACK: [u8; 5] = [2, 1, 1, 2, 2];
-
-// Lends the first `count` bytes of `out`, filled with the pattern.
-fn ack_into(state: ReceiveBuffer, out: &mut [u8], count: usize) -> Answer {
-    fill(out, count);
-    if count <= out.len() {
-        of_count(state.selective_ack(&mut out[..count]))
-    } else {
-        of_count(state.selective_ack(out))
-    }
-}
-
-// Kind 3: the ack number and the selective ACK.
-pub fn ack(state: ReceiveBuffer, feed: Feed, window: &mut [u8], out: &mut [u8]) -> Step {
-    let mut input = [0u64; 5];
-    let head = feed.numbers(window, &ACK, &mut input);
-    let room = (input[0] % 65536) as usize;
-    let answer = ack_into(state, out, room);
-    seen_ack(state, answer, input, head, window, front(out, room))
-}
-
-fn seen_ack(
-    state: ReceiveBuffer,
-    answer: Answer,
-    input: [u64; 5],
-    feed: Feed,
-    window: &mut [u8],
-    out: &[u8],
-) -> Step {
-    let size = (input[4] % 65536) as usize;
-    let held = held_out(feed, window, out, size, out.len());
-    let behind = held.feed;
-    let is_equal = both(answer.number == input[1], answer.value == input[4]);
-    let is_shown = both(held.is_same, numbered(state.ack_num()) == input[3]);
-    Step {
-        state,
-        answer: input[1],
-        is_same: both(is_equal, is_shown),
-        feed: behind,
-    }
-}
-
-// Number, answer, source, was it written, is it empty, available, ready, waiting bytes, waiting payloads,
-// c.
-const ASK: [u8; 10] = [2, 1, 1, 1, 1, 4, 4, 4, 2, 2];
-
-fn is_shown(state: ReceiveBuffer, input: [u64; 10]) -> bool {
-    let number = SeqNum((input[0] % 65536) as u16);
-    let truths = both(
-        told(state.was_written(number)) == input[3],
-        told(state.is_empty()) == input[4],
-    );
-    let bytes = both(
-        counted(state.available()) == input[5],
-        counted(state.ready()) == input[6],
-    );
-    let waiting = both(
-        counted(state.waiting_bytes()) == input[7],
-        counted(state.waiting()) == input[8],
-    );
-    both(
-        both(truths, bytes),
-        both(waiting, counted(state.count()) == input[9]),
-    )
-}
-
-// Kind 4: what a caller may ask.
-pub fn ask(state: ReceiveBuffer, feed: Feed, window: &mut [u8]) -> Step {
-    let mut input = [0u64; 10];
-    let behind = feed.numbers(window, &ASK, &mut input);
-    Step {
-        state,
-        answer: input[1],
-        is_same: both(input[1] == 0, is_shown(state, input)),
-        feed: behind,
-    }
-}
-
-// Count, answer, source, c.
-const RUN: [u8; 4] = [2, 1, 1, 2];
 
 // A write of the next number in order, with an empty payload.
-struct Next {
-    state: ReceiveBuffer,
-    is_stored: bool,
-}
-
-fn write_next(next: Next, buf: &mut [u8]) -> Next {
-    let none = [0u8; 1];
-    let state = next.state;
-    let number = SeqNum((numbered(state.ack_num()) % 65536) as u16);
-    let written = state.write(buf, number.plus(1), front(&none, 0));
-    let writing = written.answer;
-    let answer = of_writing(writing);
+fn write_next(step: Step, buf: &mut [u8]) -> Step {
+    let state = step.state;
+    let last = SeqNum((numbered(state.ack_num()) % 65536) as u16);
+    let written = state.write(buf, last.plus(1), b"");
     let after = written.state;
-    let is_stored = both(answer.number == 0, answer.value == 0);
-    Next {
-        state: after,
-        is_stored: both(next.is_stored, is_stored),
-    }
-}
-
-fn write_run(state: ReceiveBuffer, buf: &mut [u8], count: u64) -> Next {
-    let mut next = Next {
-        state,
-        is_stored: true,
-    };
-    for _ in 0..count {
-        next = write_next(next, buf);
-    }
-    next
-}
-
-// Kind 5: so many of them in a row.
-pub fn run(state: ReceiveBuffer, feed: Feed, window: &mut [u8], buf: &mut [u8]) -> Step {
-    let mut input = [0u64; 4];
-    let behind = feed.numbers(window, &RUN, &mut input);
-    let next = write_run(state, buf, input[0]);
-    let after = next.state;
-    let is_equal = both(input[1] == 0, counted(after.count()) == input[3]);
+    let writing = written.answer;
     Step {
         state: after,
-        answer: input[1],
-        is_same: both(next.is_stored, is_equal),
-        feed: behind,
+        is_same: step.is_same & is_stored(writing),
+    }
+}
+
+fn is_stored(writing: Writing) -> bool {
+    match writing {
+        Writing::Stored => true,
+        Writing::AlreadyThere => false,
+        Writing::Refused(_) => false,
+    }
+}
+
+fn write_run(start: Step, buf: &mut [u8], count: u16) -> Step {
+    let mut step = start;
+    for _ in 0..count {
+        step = write_next(step, buf);
+    }
+    step
+}
+
+// Kind 5: count, answer, source, c. So many such writes in a row.
+fn run(state: ReceiveBuffer, event: &[u8], buf: &mut [u8]) -> Step {
+    let is_same = tells(event, 3, 1, 0);
+    let step = write_run(Step { state, is_same }, buf, two(event, 1));
+    let after = step.state;
+    Step {
+        state: after,
+        is_same: step.is_same & tells(event, 5, 2, counted(after.count())),
+    }
+}
+
+// The kinds that change nothing. A kind that there is not differs.
+fn is_answered(state: ReceiveBuffer, event: &[u8], out: &mut [u8]) -> bool {
+    match number(event, 0, 1) {
+        3 => is_acked(state, event, out),
+        4 => is_told(state, event),
+        _ => false,
+    }
+}
+
+// Does what the event says, and compares.
+pub fn compare(state: ReceiveBuffer, event: &[u8], buf: &mut [u8], out: &mut [u8]) -> Step {
+    match number(event, 0, 1) {
+        1 => write(state, event, buf),
+        2 => read(state, event, buf, out),
+        5 => run(state, event, buf),
+        _ => Step {
+            state,
+            is_same: is_answered(state, event, out),
+        },
     }
 }

@@ -1,235 +1,143 @@
 // Sessions: the buffer's length, the initial number, the answer to its making, a count of events, the
-// events. The buffer that is lent has just the length of the session.
-use crate::event;
+// events. The buffer that is lent has just the length of the session. A replay counts the events of one
+// kind, or for kind 0 the sessions.
 use crate::event::Step;
-use feed::Feed;
-use feed::both;
-use packet::seq::SeqNum;
+use crate::event::answer_of;
+use crate::event::compare;
+use crate::event::kind_of;
+use crate::event::number_of_refusal;
+use crate::event::size_of;
+use list::behind;
+use list::four;
+use list::number;
+use list::tells;
+use list::two;
 use recv::Creation;
 use recv::ReceiveBuffer;
 use report::tally::Tally;
+use std::num::wrapping_add_usize;
+use wire::seq::SeqNum;
 
-const WIDTHS: [u8; 4] = [4, 2, 1, 4];
-
-// The sessions, and the events of each kind.
-pub struct Totals {
-    pub sessions: Tally,
-    pub writes: Tally,
-    pub reads: Tally,
-    pub acks: Tally,
-    pub asks: Tally,
-    pub runs: Tally,
-    pub feed: Feed,
-    pub goes_on: bool,
+// What is counted, and the place in the list.
+struct Stand {
+    tally: Tally,
+    at: usize,
 }
 
-// A session under way.
-struct Run {
-    state: ReceiveBuffer,
-    totals: Totals,
-}
-
-// The totals at another place of the list.
-fn moved(totals: Totals, feed: Feed, goes_on: bool) -> Totals {
-    let sessions = totals.sessions;
-    let writes = totals.writes;
-    let reads = totals.reads;
-    let acks = totals.acks;
-    let asks = totals.asks;
-    let runs = totals.runs;
-    Totals {
-        sessions,
-        writes,
-        reads,
-        acks,
-        asks,
-        runs,
-        feed,
-        goes_on,
-    }
-}
-
-fn counted_if(tally: Tally, is_of: bool, answer: u64, is_same: bool) -> Tally {
+// The stand behind a record of so many bytes, which is counted if it is of the kind.
+fn behind_record(stand: Stand, size: usize, is_of: bool, answer: u64, is_same: bool) -> Stand {
+    let tally = stand.tally;
+    let at = wrapping_add_usize(stand.at, size);
     if is_of {
-        tally.counted(answer, is_same)
+        Stand {
+            tally: tally.counted(answer, is_same),
+            at,
+        }
     } else {
-        tally
+        Stand { tally, at }
     }
 }
 
-// One event more, of a kind. A kind that there is not counts as a run that differs.
-fn counted(totals: Totals, kind: u64, answer: u64, is_same: bool) -> Totals {
-    let sessions = totals.sessions;
-    let feed = totals.feed;
-    let is_other = kind == 0 || kind > 4;
-    Totals {
-        sessions,
-        writes: counted_if(totals.writes, kind == 1, answer, is_same),
-        reads: counted_if(totals.reads, kind == 2, answer, is_same),
-        acks: counted_if(totals.acks, kind == 3, answer, is_same),
-        asks: counted_if(totals.asks, kind == 4, answer, is_same),
-        runs: counted_if(totals.runs, is_other, answer, both(is_same, kind == 5)),
-        feed,
-        goes_on: totals.goes_on,
-    }
+fn behind_event(stand: Stand, list: &[u8], kind: u64, is_same: bool) -> Stand {
+    let event = behind(list, stand.at);
+    let size = size_of(event);
+    let is_whole = size <= event.len();
+    let is_of = kind_of(event) == kind;
+    behind_record(stand, size, is_of, answer_of(event), is_same & is_whole)
 }
 
-fn step(
+fn compare_at(
     state: ReceiveBuffer,
-    kind: u64,
-    feed: Feed,
-    window: &mut [u8],
+    list: &[u8],
+    at: usize,
     buf: &mut [u8],
     out: &mut [u8],
 ) -> Step {
-    match kind {
-        1 => event::write(state, feed, window, buf, out),
-        2 => event::read(state, feed, window, buf, out),
-        3 => event::ack(state, feed, window, out),
-        4 => event::ask(state, feed, window),
-        _ => event::run(state, feed, window, buf),
-    }
+    compare(state, behind(list, at), buf, out)
 }
 
-// The session after an event that was compared.
-fn after(totals: Totals, kind: u64, step: Step) -> Run {
-    let state = step.state;
-    let behind = step.feed;
-    let is_same = both(step.is_same, !behind.short);
-    Run {
-        state,
-        totals: counted(moved(totals, behind, true), kind, step.answer, is_same),
-    }
-}
-
-fn stepped(
-    run: Run,
+fn all_events(
+    start: ReceiveBuffer,
+    stand: Stand,
+    list: &[u8],
     kind: u64,
-    feed: Feed,
-    window: &mut [u8],
     buf: &mut [u8],
     out: &mut [u8],
-) -> Run {
-    let step = step(run.state, kind, feed, window, buf, out);
-    after(run.totals, kind, step)
-}
-
-fn one_event(run: Run, window: &mut [u8], buf: &mut [u8], out: &mut [u8]) -> Run {
-    let kind = run.totals.feed.number(window, 1);
-    stepped(run, kind.value, kind.feed, window, buf, out)
-}
-
-fn all_events(run: Run, window: &mut [u8], buf: &mut [u8], out: &mut [u8], count: u64) -> Run {
-    let mut run = run;
+    count: u32,
+) -> Stand {
+    let mut state = start;
+    let mut stand = stand;
     for _ in 0..count {
-        run = one_event(run, window, buf, out);
+        let step = compare_at(state, list, stand.at, buf, out);
+        state = step.state;
+        stand = behind_event(stand, list, kind, step.is_same);
     }
-    run
+    stand
+}
+
+// Runs the events over the first `length` bytes of the buffer.
+fn over(
+    state: ReceiveBuffer,
+    stand: Stand,
+    list: &[u8],
+    kind: u64,
+    buffer: &mut [u8],
+    out: &mut [u8],
+    length: usize,
+    count: u32,
+) -> Stand {
+    if length <= buffer.len() {
+        all_events(state, stand, list, kind, &mut buffer[..length], out, count)
+    } else {
+        stand
+    }
 }
 
 fn number_of(creation: Creation) -> u64 {
     match creation {
         Creation::Made => 0,
-        Creation::Refused(refusal) => event::number_of_refusal(refusal),
+        Creation::Refused(refusal) => number_of_refusal(refusal),
     }
 }
 
-// Runs the events over the first `length` bytes of the buffer.
-fn over(
-    run: Run,
-    window: &mut [u8],
-    buffer: &mut [u8],
-    out: &mut [u8],
-    length: usize,
-    count: u64,
-) -> Run {
-    if length <= buffer.len() {
-        all_events(run, window, &mut buffer[..length], out, count)
-    } else {
-        run
-    }
+fn behind_head(stand: Stand, kind: u64, head: &[u8], answer: Creation) -> Stand {
+    let is_same = tells(head, 6, 1, number_of(answer));
+    let is_whole = 11 <= head.len();
+    behind_record(stand, 11, kind == 0, number(head, 6, 1), is_same & is_whole)
 }
 
-// The totals with one session more.
-fn with_session(totals: Totals, answer: u64, is_same: bool) -> Totals {
-    let writes = totals.writes;
-    let reads = totals.reads;
-    let acks = totals.acks;
-    let asks = totals.asks;
-    let runs = totals.runs;
-    let feed = totals.feed;
-    Totals {
-        sessions: totals.sessions.counted(answer, is_same),
-        writes,
-        reads,
-        acks,
-        asks,
-        runs,
-        feed,
-        goes_on: true,
-    }
+// The count of events, or more than a list has bytes: past its end each event differs.
+fn turns(head: &[u8]) -> u32 {
+    let count = four(head, 7);
+    if count < 1048576 { count } else { 1048576 }
 }
 
-// A session whose head was taken.
-fn run_session(
-    totals: Totals,
-    head: [u64; 4],
-    window: &mut [u8],
-    buffer: &mut [u8],
-    out: &mut [u8],
-) -> Totals {
-    let length = (head[0] % 4294967296) as usize;
-    let created = ReceiveBuffer::new(SeqNum((head[1] % 65536) as u16), length);
-    let answer = created.answer;
+fn session(stand: Stand, list: &[u8], kind: u64, buffer: &mut [u8], out: &mut [u8]) -> Stand {
+    let head = behind(list, stand.at);
+    let length = four(head, 0) as usize;
+    let created = ReceiveBuffer::new(SeqNum(two(head, 4)), length);
     let state = created.state;
-    let is_same = number_of(answer) == head[2];
-    let run = Run {
-        state,
-        totals: with_session(totals, head[2], is_same),
-    };
-    over(run, window, buffer, out, length, head[3]).totals
+    let answer = created.answer;
+    let begun = behind_head(stand, kind, head, answer);
+    over(state, begun, list, kind, buffer, out, length, turns(head))
 }
 
-fn session(totals: Totals, window: &mut [u8], buffer: &mut [u8], out: &mut [u8]) -> Totals {
-    let mut head = [0u64; 4];
-    let behind = totals.feed.numbers(window, &WIDTHS, &mut head);
-    run_session(moved(totals, behind, true), head, window, buffer, out)
-}
-
-fn next_session(totals: Totals, window: &mut [u8], buffer: &mut [u8], out: &mut [u8]) -> Totals {
-    let feed = totals.feed.filled(window);
-    let is_left = feed.has_more();
-    let ready = moved(totals, feed, is_left);
-    if is_left {
-        session(ready, window, buffer, out)
-    } else {
-        ready
-    }
-}
-
-fn replay_all(fd: i32, window: &mut [u8], buffer: &mut [u8], out: &mut [u8]) -> Totals {
-    let mut totals = Totals {
-        sessions: Tally::new(),
-        writes: Tally::new(),
-        reads: Tally::new(),
-        acks: Tally::new(),
-        asks: Tally::new(),
-        runs: Tally::new(),
-        feed: Feed::new(fd),
-        goes_on: true,
+fn replay_all(list: &[u8], kind: u64, buffer: &mut [u8], out: &mut [u8]) -> Tally {
+    let mut stand = Stand {
+        tally: Tally::new(),
+        at: 0,
     };
     for _ in 0..u64::MAX {
-        totals = next_session(totals, window, buffer, out);
-        if !totals.goes_on {
-            return totals;
+        if stand.at >= list.len() {
+            return stand.tally;
         }
+        stand = session(stand, list, kind, buffer, out);
     }
-    totals
+    stand.tally
 }
 
-pub fn replay(fd: i32) -> Totals {
-    let mut window = io::large_buffer();
+pub fn replay(list: &[u8], kind: u64) -> Tally {
     let mut buffer = io::large_buffer();
     let mut out = io::large_buffer();
-    replay_all(fd, &mut window, &mut buffer, &mut out)
+    replay_all(list, kind, &mut buffer, &mut out)
 }

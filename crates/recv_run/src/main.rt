@@ -1,14 +1,12 @@
 // A random run of the receiver: 160,000 steps over four receivers, each step a write, a read and
 // every sixteenth an acknowledgement, in which every byte read must be the byte that was sent. The
 // numbers come from a small generator with a fixed seed. Prints a line of totals for each receiver.
-use packet::seq::SeqNum;
 use recv::Count;
 use recv::Number;
 use recv::ReceiveBuffer;
 use recv::Writing;
-ghost use Prim.Native.Nat.{_≤_, _<_};
-ghost use mathlib.Core.Path.{_≡_};
-ghost use lib.ListN.{length};
+use wire::seq::SeqNum;
+ghost use Prim.Native.Nat.{_<_};
 
 // What has happened so far, and which byte is to be read next: byte `at` of payload `want`.
 struct Tally {

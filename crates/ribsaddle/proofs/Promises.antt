@@ -66,14 +66,15 @@ use Rattle.ribsaddle.proofs.receiver.ribsaddle_recv_was_written as recv
 use Rattle.ribsaddle.proofs.receiver.ribsaddle_recv_was_written.Key as recv-was-written-key
 use Rattle.ribsaddle.specs.Answer.{bitOf, numberOf, partOr, valueOr}
 use Rattle.ribsaddle.specs.Codec.{readingOf, writingOf, writingRoomOf, writingSizeOf}
-use Rattle.ribsaddle.specs.Parts.{countingOf, partsOf as recv-parts, wholeIn as recv-in, wholeOf as recv-whole}
+use Rattle.ribsaddle.specs.Parts.{countingOf, partsOf as recv-parts, wholeOf as recv-whole}
 use Rattle.ribsaddle.specs.declared.receiver.Receiver.{Receiver}
 use Rattle.ribsaddle.specs.declared.tracker.Tracker.{Tracker}
 use Rattle.ribsaddle.specs.Tracker.{Sized, ackOf as sent-ack, endOf, headingOf, lostAnswer, lostNumberOf, lostTagOf, lostTypeOf, newOf as sent-new, partsOf as sent-parts, seqOf, soundNumberOf, startOf, timeoutOf, transmitOf, wholeOf as sent-whole}
 use Rattle.ribsaddle.specs.Receiver.{countAnswer, newOf as recv-new, numberAnswer, readOf as recv-read, sackAnswer, takenCountOf, truthAnswer, writeOf}
 use Rattle.sent.specs.State.{readOf as sent-read}
-use Rattle.sent_lent.specs.Lent.{marksOf, pairsOf, sizesOf, timesOf, wholeIn as sent-in}
+use Rattle.sent_lent.specs.Lent.{marksOf, pairsOf, sizesOf, timesOf, wholeIn}
 use Rattle.outgoing.specs.Read.{ackNumIn, hasLostIn, hasUnackedIn, inFlightIn, lostCountIn, maximumIn, nextSeqNumIn, seqNumRangeIn, timeoutIn, windowIn}
+use Rattle.recv.specs.Lent.{whole}
 use Rattle.recv.specs.State.{ackOf as recv-ack, countedOf, emptyOf, numberedOf, tableOf, toldOf, writtenBefore}
 use Rattle.recv.specs.Table.{bytesIn, freeOf, howMany}
 use Rattle.recv.specs.Calls.{ackedRoomOf, takenOutOf, takenRoomOf, writtenRoomOf}
@@ -105,14 +106,14 @@ encode-promise = record { post = Ref-ssmr.Post header-fields (uint w8) (uint w8)
 sent-new-promise : Exported sent-new.ended (λ M 𝓤. sent-new.clauses 𝓤) (Mut-nnnnnnnn.seen tracker (uint w16) (uint w64) (uint w64) (uint w64) (uint w64) (uint w64) (uint w64) (float binary64) (uint w32) starting sent-new-key.name sent-new)
 sent-new-promise = record { post = Mut-nnnnnnnn.Post tracker (uint w16) (uint w64) (uint w64) (uint w64) (uint w64) (uint w64) (uint w64) (float binary64) (uint w32) starting sent-new-key.name sent-new; asks-nothing = λ M 𝓤 H A mem run κs a g. refl; says = λ M 𝓤 H A mem run κs a g r e. refl; promise = Mut-nnnnnnnn.promise tracker (uint w16) (uint w64) (uint w64) (uint w64) (uint w64) (uint w64) (uint w64) (float binary64) (uint w32) starting sent-new-key.name sent-new }
 
-sent-transmit-promise : Exported sent-transmit.ended (λ M 𝓤. sent-transmit.clauses 𝓤) (PartR-vllll-nnnnn.seen head tracker-name samples times sizes marks Tracker tracker-to tracker-one (λ t. t .head) (λ t. refl) tracker-lawful (uint w16) (uint w8) (uint w32) (uint w32) (uint w64) (uint w32) heading sent-transmit-key.name (λ c w x y z y1 y2 y3 y4 y5. Sized w x y z) (λ c w x y z y1 y2 y3 y4 y5. headingOf (transmitOf (sent-in c w x y z) y1 y2 y3 y4 y5)) (λ c w x y z y1 y2 y3 y4 y5. pairsOf (transmitOf (sent-in c w x y z) y1 y2 y3 y4 y5 .state .delays .kept)) (λ c w x y z y1 y2 y3 y4 y5. timesOf (transmitOf (sent-in c w x y z) y1 y2 y3 y4 y5 .state .packets)) (λ c w x y z y1 y2 y3 y4 y5. sizesOf (transmitOf (sent-in c w x y z) y1 y2 y3 y4 y5 .state .packets)) (λ c w x y z y1 y2 y3 y4 y5. marksOf (transmitOf (sent-in c w x y z) y1 y2 y3 y4 y5 .state .packets)) (λ t y1 y2 y3 y4 y5. transmitOf (sent-whole t) y1 y2 y3 y4 y5 .answer) (λ t y1 y2 y3 y4 y5. sent-parts (transmitOf (sent-whole t) y1 y2 y3 y4 y5 .state)) (λ t y1 y2 y3 y4 y5. sent-stored t (λ s. transmitOf s y1 y2 y3 y4 y5 .answer)) (λ t y1 y2 y3 y4 y5. sent-next t (λ s. transmitOf s y1 y2 y3 y4 y5 .state)) (λ t y1 y2 y3 y4 y5. sized t))
-sent-transmit-promise = record { post = PartR-vllll-nnnnn.Post head tracker-name samples times sizes marks Tracker tracker-to tracker-one (λ t. t .head) (λ t. refl) tracker-lawful (uint w16) (uint w8) (uint w32) (uint w32) (uint w64) (uint w32) heading sent-transmit-key.name (λ c w x y z y1 y2 y3 y4 y5. Sized w x y z) (λ c w x y z y1 y2 y3 y4 y5. headingOf (transmitOf (sent-in c w x y z) y1 y2 y3 y4 y5)) (λ c w x y z y1 y2 y3 y4 y5. pairsOf (transmitOf (sent-in c w x y z) y1 y2 y3 y4 y5 .state .delays .kept)) (λ c w x y z y1 y2 y3 y4 y5. timesOf (transmitOf (sent-in c w x y z) y1 y2 y3 y4 y5 .state .packets)) (λ c w x y z y1 y2 y3 y4 y5. sizesOf (transmitOf (sent-in c w x y z) y1 y2 y3 y4 y5 .state .packets)) (λ c w x y z y1 y2 y3 y4 y5. marksOf (transmitOf (sent-in c w x y z) y1 y2 y3 y4 y5 .state .packets)) (λ t y1 y2 y3 y4 y5. transmitOf (sent-whole t) y1 y2 y3 y4 y5 .answer) (λ t y1 y2 y3 y4 y5. sent-parts (transmitOf (sent-whole t) y1 y2 y3 y4 y5 .state)) (λ t y1 y2 y3 y4 y5. sent-stored t (λ s. transmitOf s y1 y2 y3 y4 y5 .answer)) (λ t y1 y2 y3 y4 y5. sent-next t (λ s. transmitOf s y1 y2 y3 y4 y5 .state)) (λ t y1 y2 y3 y4 y5. sized t); asks-nothing = λ M 𝓤 H A mem run κs a g. refl; says = λ M 𝓤 H A mem run κs a g r e. refl; promise = PartR-vllll-nnnnn.promise head tracker-name samples times sizes marks Tracker tracker-to tracker-one (λ t. t .head) (λ t. refl) tracker-lawful (uint w16) (uint w8) (uint w32) (uint w32) (uint w64) (uint w32) heading sent-transmit-key.name (λ c w x y z y1 y2 y3 y4 y5. Sized w x y z) (λ c w x y z y1 y2 y3 y4 y5. headingOf (transmitOf (sent-in c w x y z) y1 y2 y3 y4 y5)) (λ c w x y z y1 y2 y3 y4 y5. pairsOf (transmitOf (sent-in c w x y z) y1 y2 y3 y4 y5 .state .delays .kept)) (λ c w x y z y1 y2 y3 y4 y5. timesOf (transmitOf (sent-in c w x y z) y1 y2 y3 y4 y5 .state .packets)) (λ c w x y z y1 y2 y3 y4 y5. sizesOf (transmitOf (sent-in c w x y z) y1 y2 y3 y4 y5 .state .packets)) (λ c w x y z y1 y2 y3 y4 y5. marksOf (transmitOf (sent-in c w x y z) y1 y2 y3 y4 y5 .state .packets)) (λ t y1 y2 y3 y4 y5. transmitOf (sent-whole t) y1 y2 y3 y4 y5 .answer) (λ t y1 y2 y3 y4 y5. sent-parts (transmitOf (sent-whole t) y1 y2 y3 y4 y5 .state)) (λ t y1 y2 y3 y4 y5. sent-stored t (λ s. transmitOf s y1 y2 y3 y4 y5 .answer)) (λ t y1 y2 y3 y4 y5. sent-next t (λ s. transmitOf s y1 y2 y3 y4 y5 .state)) (λ t y1 y2 y3 y4 y5. sized t) }
+sent-transmit-promise : Exported sent-transmit.ended (λ M 𝓤. sent-transmit.clauses 𝓤) (PartR-vllll-nnnnn.seen head tracker-name samples times sizes marks Tracker tracker-to tracker-one (λ t. t .head) (λ t. refl) tracker-lawful (uint w16) (uint w8) (uint w32) (uint w32) (uint w64) (uint w32) heading sent-transmit-key.name (λ c w x y z y1 y2 y3 y4 y5. Sized w x y z) (λ c w x y z y1 y2 y3 y4 y5. headingOf (transmitOf (wholeIn c w x y z) y1 y2 y3 y4 y5)) (λ c w x y z y1 y2 y3 y4 y5. pairsOf (transmitOf (wholeIn c w x y z) y1 y2 y3 y4 y5 .state .delays .kept)) (λ c w x y z y1 y2 y3 y4 y5. timesOf (transmitOf (wholeIn c w x y z) y1 y2 y3 y4 y5 .state .packets)) (λ c w x y z y1 y2 y3 y4 y5. sizesOf (transmitOf (wholeIn c w x y z) y1 y2 y3 y4 y5 .state .packets)) (λ c w x y z y1 y2 y3 y4 y5. marksOf (transmitOf (wholeIn c w x y z) y1 y2 y3 y4 y5 .state .packets)) (λ t y1 y2 y3 y4 y5. transmitOf (sent-whole t) y1 y2 y3 y4 y5 .answer) (λ t y1 y2 y3 y4 y5. sent-parts (transmitOf (sent-whole t) y1 y2 y3 y4 y5 .state)) (λ t y1 y2 y3 y4 y5. sent-stored t (λ s. transmitOf s y1 y2 y3 y4 y5 .answer)) (λ t y1 y2 y3 y4 y5. sent-next t (λ s. transmitOf s y1 y2 y3 y4 y5 .state)) (λ t y1 y2 y3 y4 y5. sized t))
+sent-transmit-promise = record { post = PartR-vllll-nnnnn.Post head tracker-name samples times sizes marks Tracker tracker-to tracker-one (λ t. t .head) (λ t. refl) tracker-lawful (uint w16) (uint w8) (uint w32) (uint w32) (uint w64) (uint w32) heading sent-transmit-key.name (λ c w x y z y1 y2 y3 y4 y5. Sized w x y z) (λ c w x y z y1 y2 y3 y4 y5. headingOf (transmitOf (wholeIn c w x y z) y1 y2 y3 y4 y5)) (λ c w x y z y1 y2 y3 y4 y5. pairsOf (transmitOf (wholeIn c w x y z) y1 y2 y3 y4 y5 .state .delays .kept)) (λ c w x y z y1 y2 y3 y4 y5. timesOf (transmitOf (wholeIn c w x y z) y1 y2 y3 y4 y5 .state .packets)) (λ c w x y z y1 y2 y3 y4 y5. sizesOf (transmitOf (wholeIn c w x y z) y1 y2 y3 y4 y5 .state .packets)) (λ c w x y z y1 y2 y3 y4 y5. marksOf (transmitOf (wholeIn c w x y z) y1 y2 y3 y4 y5 .state .packets)) (λ t y1 y2 y3 y4 y5. transmitOf (sent-whole t) y1 y2 y3 y4 y5 .answer) (λ t y1 y2 y3 y4 y5. sent-parts (transmitOf (sent-whole t) y1 y2 y3 y4 y5 .state)) (λ t y1 y2 y3 y4 y5. sent-stored t (λ s. transmitOf s y1 y2 y3 y4 y5 .answer)) (λ t y1 y2 y3 y4 y5. sent-next t (λ s. transmitOf s y1 y2 y3 y4 y5 .state)) (λ t y1 y2 y3 y4 y5. sized t); asks-nothing = λ M 𝓤 H A mem run κs a g. refl; says = λ M 𝓤 H A mem run κs a g r e. refl; promise = PartR-vllll-nnnnn.promise head tracker-name samples times sizes marks Tracker tracker-to tracker-one (λ t. t .head) (λ t. refl) tracker-lawful (uint w16) (uint w8) (uint w32) (uint w32) (uint w64) (uint w32) heading sent-transmit-key.name (λ c w x y z y1 y2 y3 y4 y5. Sized w x y z) (λ c w x y z y1 y2 y3 y4 y5. headingOf (transmitOf (wholeIn c w x y z) y1 y2 y3 y4 y5)) (λ c w x y z y1 y2 y3 y4 y5. pairsOf (transmitOf (wholeIn c w x y z) y1 y2 y3 y4 y5 .state .delays .kept)) (λ c w x y z y1 y2 y3 y4 y5. timesOf (transmitOf (wholeIn c w x y z) y1 y2 y3 y4 y5 .state .packets)) (λ c w x y z y1 y2 y3 y4 y5. sizesOf (transmitOf (wholeIn c w x y z) y1 y2 y3 y4 y5 .state .packets)) (λ c w x y z y1 y2 y3 y4 y5. marksOf (transmitOf (wholeIn c w x y z) y1 y2 y3 y4 y5 .state .packets)) (λ t y1 y2 y3 y4 y5. transmitOf (sent-whole t) y1 y2 y3 y4 y5 .answer) (λ t y1 y2 y3 y4 y5. sent-parts (transmitOf (sent-whole t) y1 y2 y3 y4 y5 .state)) (λ t y1 y2 y3 y4 y5. sent-stored t (λ s. transmitOf s y1 y2 y3 y4 y5 .answer)) (λ t y1 y2 y3 y4 y5. sent-next t (λ s. transmitOf s y1 y2 y3 y4 y5 .state)) (λ t y1 y2 y3 y4 y5. sized t) }
 
-sent-ack-promise : Exported sent-ack.ended (λ M 𝓤. sent-ack.clauses 𝓤) (Part-vllll-nsnn.seen head tracker-name samples times sizes marks Tracker tracker-to tracker-one (λ t. t .head) (λ t. refl) tracker-lawful (uint w16) (uint w8) (uint w64) (uint w64) (uint w32) heading sent-ack-key.name (λ c w x y z y1 y2 y3 y4. headingOf (sent-ack (sent-in c w x y z) y1 y2 y3 y4)) (λ c w x y z y1 y2 y3 y4. pairsOf (sent-ack (sent-in c w x y z) y1 y2 y3 y4 .state .delays .kept)) (λ c w x y z y1 y2 y3 y4. timesOf (sent-ack (sent-in c w x y z) y1 y2 y3 y4 .state .packets)) (λ c w x y z y1 y2 y3 y4. sizesOf (sent-ack (sent-in c w x y z) y1 y2 y3 y4 .state .packets)) (λ c w x y z y1 y2 y3 y4. marksOf (sent-ack (sent-in c w x y z) y1 y2 y3 y4 .state .packets)) (λ t y1 y2 y3 y4. sent-ack (sent-whole t) y1 y2 y3 y4 .answer) (λ t y1 y2 y3 y4. sent-parts (sent-ack (sent-whole t) y1 y2 y3 y4 .state)) (λ t y1 y2 y3 y4. sent-stored t (λ s. sent-ack s y1 y2 y3 y4 .answer)) (λ t y1 y2 y3 y4. sent-next t (λ s. sent-ack s y1 y2 y3 y4 .state)))
-sent-ack-promise = record { post = Part-vllll-nsnn.Post head tracker-name samples times sizes marks Tracker tracker-to tracker-one (λ t. t .head) (λ t. refl) tracker-lawful (uint w16) (uint w8) (uint w64) (uint w64) (uint w32) heading sent-ack-key.name (λ c w x y z y1 y2 y3 y4. headingOf (sent-ack (sent-in c w x y z) y1 y2 y3 y4)) (λ c w x y z y1 y2 y3 y4. pairsOf (sent-ack (sent-in c w x y z) y1 y2 y3 y4 .state .delays .kept)) (λ c w x y z y1 y2 y3 y4. timesOf (sent-ack (sent-in c w x y z) y1 y2 y3 y4 .state .packets)) (λ c w x y z y1 y2 y3 y4. sizesOf (sent-ack (sent-in c w x y z) y1 y2 y3 y4 .state .packets)) (λ c w x y z y1 y2 y3 y4. marksOf (sent-ack (sent-in c w x y z) y1 y2 y3 y4 .state .packets)) (λ t y1 y2 y3 y4. sent-ack (sent-whole t) y1 y2 y3 y4 .answer) (λ t y1 y2 y3 y4. sent-parts (sent-ack (sent-whole t) y1 y2 y3 y4 .state)) (λ t y1 y2 y3 y4. sent-stored t (λ s. sent-ack s y1 y2 y3 y4 .answer)) (λ t y1 y2 y3 y4. sent-next t (λ s. sent-ack s y1 y2 y3 y4 .state)); asks-nothing = λ M 𝓤 H A mem run κs a g. refl; says = λ M 𝓤 H A mem run κs a g r e. refl; promise = Part-vllll-nsnn.promise head tracker-name samples times sizes marks Tracker tracker-to tracker-one (λ t. t .head) (λ t. refl) tracker-lawful (uint w16) (uint w8) (uint w64) (uint w64) (uint w32) heading sent-ack-key.name (λ c w x y z y1 y2 y3 y4. headingOf (sent-ack (sent-in c w x y z) y1 y2 y3 y4)) (λ c w x y z y1 y2 y3 y4. pairsOf (sent-ack (sent-in c w x y z) y1 y2 y3 y4 .state .delays .kept)) (λ c w x y z y1 y2 y3 y4. timesOf (sent-ack (sent-in c w x y z) y1 y2 y3 y4 .state .packets)) (λ c w x y z y1 y2 y3 y4. sizesOf (sent-ack (sent-in c w x y z) y1 y2 y3 y4 .state .packets)) (λ c w x y z y1 y2 y3 y4. marksOf (sent-ack (sent-in c w x y z) y1 y2 y3 y4 .state .packets)) (λ t y1 y2 y3 y4. sent-ack (sent-whole t) y1 y2 y3 y4 .answer) (λ t y1 y2 y3 y4. sent-parts (sent-ack (sent-whole t) y1 y2 y3 y4 .state)) (λ t y1 y2 y3 y4. sent-stored t (λ s. sent-ack s y1 y2 y3 y4 .answer)) (λ t y1 y2 y3 y4. sent-next t (λ s. sent-ack s y1 y2 y3 y4 .state)) }
+sent-ack-promise : Exported sent-ack.ended (λ M 𝓤. sent-ack.clauses 𝓤) (Part-vllll-nsnn.seen head tracker-name samples times sizes marks Tracker tracker-to tracker-one (λ t. t .head) (λ t. refl) tracker-lawful (uint w16) (uint w8) (uint w64) (uint w64) (uint w32) heading sent-ack-key.name (λ c w x y z y1 y2 y3 y4. headingOf (sent-ack (wholeIn c w x y z) y1 y2 y3 y4)) (λ c w x y z y1 y2 y3 y4. pairsOf (sent-ack (wholeIn c w x y z) y1 y2 y3 y4 .state .delays .kept)) (λ c w x y z y1 y2 y3 y4. timesOf (sent-ack (wholeIn c w x y z) y1 y2 y3 y4 .state .packets)) (λ c w x y z y1 y2 y3 y4. sizesOf (sent-ack (wholeIn c w x y z) y1 y2 y3 y4 .state .packets)) (λ c w x y z y1 y2 y3 y4. marksOf (sent-ack (wholeIn c w x y z) y1 y2 y3 y4 .state .packets)) (λ t y1 y2 y3 y4. sent-ack (sent-whole t) y1 y2 y3 y4 .answer) (λ t y1 y2 y3 y4. sent-parts (sent-ack (sent-whole t) y1 y2 y3 y4 .state)) (λ t y1 y2 y3 y4. sent-stored t (λ s. sent-ack s y1 y2 y3 y4 .answer)) (λ t y1 y2 y3 y4. sent-next t (λ s. sent-ack s y1 y2 y3 y4 .state)))
+sent-ack-promise = record { post = Part-vllll-nsnn.Post head tracker-name samples times sizes marks Tracker tracker-to tracker-one (λ t. t .head) (λ t. refl) tracker-lawful (uint w16) (uint w8) (uint w64) (uint w64) (uint w32) heading sent-ack-key.name (λ c w x y z y1 y2 y3 y4. headingOf (sent-ack (wholeIn c w x y z) y1 y2 y3 y4)) (λ c w x y z y1 y2 y3 y4. pairsOf (sent-ack (wholeIn c w x y z) y1 y2 y3 y4 .state .delays .kept)) (λ c w x y z y1 y2 y3 y4. timesOf (sent-ack (wholeIn c w x y z) y1 y2 y3 y4 .state .packets)) (λ c w x y z y1 y2 y3 y4. sizesOf (sent-ack (wholeIn c w x y z) y1 y2 y3 y4 .state .packets)) (λ c w x y z y1 y2 y3 y4. marksOf (sent-ack (wholeIn c w x y z) y1 y2 y3 y4 .state .packets)) (λ t y1 y2 y3 y4. sent-ack (sent-whole t) y1 y2 y3 y4 .answer) (λ t y1 y2 y3 y4. sent-parts (sent-ack (sent-whole t) y1 y2 y3 y4 .state)) (λ t y1 y2 y3 y4. sent-stored t (λ s. sent-ack s y1 y2 y3 y4 .answer)) (λ t y1 y2 y3 y4. sent-next t (λ s. sent-ack s y1 y2 y3 y4 .state)); asks-nothing = λ M 𝓤 H A mem run κs a g. refl; says = λ M 𝓤 H A mem run κs a g r e. refl; promise = Part-vllll-nsnn.promise head tracker-name samples times sizes marks Tracker tracker-to tracker-one (λ t. t .head) (λ t. refl) tracker-lawful (uint w16) (uint w8) (uint w64) (uint w64) (uint w32) heading sent-ack-key.name (λ c w x y z y1 y2 y3 y4. headingOf (sent-ack (wholeIn c w x y z) y1 y2 y3 y4)) (λ c w x y z y1 y2 y3 y4. pairsOf (sent-ack (wholeIn c w x y z) y1 y2 y3 y4 .state .delays .kept)) (λ c w x y z y1 y2 y3 y4. timesOf (sent-ack (wholeIn c w x y z) y1 y2 y3 y4 .state .packets)) (λ c w x y z y1 y2 y3 y4. sizesOf (sent-ack (wholeIn c w x y z) y1 y2 y3 y4 .state .packets)) (λ c w x y z y1 y2 y3 y4. marksOf (sent-ack (wholeIn c w x y z) y1 y2 y3 y4 .state .packets)) (λ t y1 y2 y3 y4. sent-ack (sent-whole t) y1 y2 y3 y4 .answer) (λ t y1 y2 y3 y4. sent-parts (sent-ack (sent-whole t) y1 y2 y3 y4 .state)) (λ t y1 y2 y3 y4. sent-stored t (λ s. sent-ack s y1 y2 y3 y4 .answer)) (λ t y1 y2 y3 y4. sent-next t (λ s. sent-ack s y1 y2 y3 y4 .state)) }
 
-sent-on-timeout-promise : Exported sent-on-timeout.ended (λ M 𝓤. sent-on-timeout.clauses 𝓤) (PartR-vllll-0.seen head tracker-name samples times sizes marks Tracker tracker-to tracker-one (λ t. t .head) (λ t. refl) tracker-lawful (uint w32) heading sent-on-timeout-key.name (λ c w x y z. Sized w x y z) (λ c w x y z. headingOf (timeoutOf (sent-in c w x y z))) (λ c w x y z. pairsOf (timeoutOf (sent-in c w x y z) .state .delays .kept)) (λ c w x y z. timesOf (timeoutOf (sent-in c w x y z) .state .packets)) (λ c w x y z. sizesOf (timeoutOf (sent-in c w x y z) .state .packets)) (λ c w x y z. marksOf (timeoutOf (sent-in c w x y z) .state .packets)) (λ t. timeoutOf (sent-whole t) .answer) (λ t. sent-parts (timeoutOf (sent-whole t) .state)) (λ t. sent-stored t (λ s. timeoutOf s .answer)) (λ t. sent-next t (λ s. timeoutOf s .state)) (λ t. sized t))
-sent-on-timeout-promise = record { post = PartR-vllll-0.Post head tracker-name samples times sizes marks Tracker tracker-to tracker-one (λ t. t .head) (λ t. refl) tracker-lawful (uint w32) heading sent-on-timeout-key.name (λ c w x y z. Sized w x y z) (λ c w x y z. headingOf (timeoutOf (sent-in c w x y z))) (λ c w x y z. pairsOf (timeoutOf (sent-in c w x y z) .state .delays .kept)) (λ c w x y z. timesOf (timeoutOf (sent-in c w x y z) .state .packets)) (λ c w x y z. sizesOf (timeoutOf (sent-in c w x y z) .state .packets)) (λ c w x y z. marksOf (timeoutOf (sent-in c w x y z) .state .packets)) (λ t. timeoutOf (sent-whole t) .answer) (λ t. sent-parts (timeoutOf (sent-whole t) .state)) (λ t. sent-stored t (λ s. timeoutOf s .answer)) (λ t. sent-next t (λ s. timeoutOf s .state)) (λ t. sized t); asks-nothing = λ M 𝓤 H A mem run κs a g. refl; says = λ M 𝓤 H A mem run κs a g r e. refl; promise = PartR-vllll-0.promise head tracker-name samples times sizes marks Tracker tracker-to tracker-one (λ t. t .head) (λ t. refl) tracker-lawful (uint w32) heading sent-on-timeout-key.name (λ c w x y z. Sized w x y z) (λ c w x y z. headingOf (timeoutOf (sent-in c w x y z))) (λ c w x y z. pairsOf (timeoutOf (sent-in c w x y z) .state .delays .kept)) (λ c w x y z. timesOf (timeoutOf (sent-in c w x y z) .state .packets)) (λ c w x y z. sizesOf (timeoutOf (sent-in c w x y z) .state .packets)) (λ c w x y z. marksOf (timeoutOf (sent-in c w x y z) .state .packets)) (λ t. timeoutOf (sent-whole t) .answer) (λ t. sent-parts (timeoutOf (sent-whole t) .state)) (λ t. sent-stored t (λ s. timeoutOf s .answer)) (λ t. sent-next t (λ s. timeoutOf s .state)) (λ t. sized t) }
+sent-on-timeout-promise : Exported sent-on-timeout.ended (λ M 𝓤. sent-on-timeout.clauses 𝓤) (PartR-vllll-0.seen head tracker-name samples times sizes marks Tracker tracker-to tracker-one (λ t. t .head) (λ t. refl) tracker-lawful (uint w32) heading sent-on-timeout-key.name (λ c w x y z. Sized w x y z) (λ c w x y z. headingOf (timeoutOf (wholeIn c w x y z))) (λ c w x y z. pairsOf (timeoutOf (wholeIn c w x y z) .state .delays .kept)) (λ c w x y z. timesOf (timeoutOf (wholeIn c w x y z) .state .packets)) (λ c w x y z. sizesOf (timeoutOf (wholeIn c w x y z) .state .packets)) (λ c w x y z. marksOf (timeoutOf (wholeIn c w x y z) .state .packets)) (λ t. timeoutOf (sent-whole t) .answer) (λ t. sent-parts (timeoutOf (sent-whole t) .state)) (λ t. sent-stored t (λ s. timeoutOf s .answer)) (λ t. sent-next t (λ s. timeoutOf s .state)) (λ t. sized t))
+sent-on-timeout-promise = record { post = PartR-vllll-0.Post head tracker-name samples times sizes marks Tracker tracker-to tracker-one (λ t. t .head) (λ t. refl) tracker-lawful (uint w32) heading sent-on-timeout-key.name (λ c w x y z. Sized w x y z) (λ c w x y z. headingOf (timeoutOf (wholeIn c w x y z))) (λ c w x y z. pairsOf (timeoutOf (wholeIn c w x y z) .state .delays .kept)) (λ c w x y z. timesOf (timeoutOf (wholeIn c w x y z) .state .packets)) (λ c w x y z. sizesOf (timeoutOf (wholeIn c w x y z) .state .packets)) (λ c w x y z. marksOf (timeoutOf (wholeIn c w x y z) .state .packets)) (λ t. timeoutOf (sent-whole t) .answer) (λ t. sent-parts (timeoutOf (sent-whole t) .state)) (λ t. sent-stored t (λ s. timeoutOf s .answer)) (λ t. sent-next t (λ s. timeoutOf s .state)) (λ t. sized t); asks-nothing = λ M 𝓤 H A mem run κs a g. refl; says = λ M 𝓤 H A mem run κs a g r e. refl; promise = PartR-vllll-0.promise head tracker-name samples times sizes marks Tracker tracker-to tracker-one (λ t. t .head) (λ t. refl) tracker-lawful (uint w32) heading sent-on-timeout-key.name (λ c w x y z. Sized w x y z) (λ c w x y z. headingOf (timeoutOf (wholeIn c w x y z))) (λ c w x y z. pairsOf (timeoutOf (wholeIn c w x y z) .state .delays .kept)) (λ c w x y z. timesOf (timeoutOf (wholeIn c w x y z) .state .packets)) (λ c w x y z. sizesOf (timeoutOf (wholeIn c w x y z) .state .packets)) (λ c w x y z. marksOf (timeoutOf (wholeIn c w x y z) .state .packets)) (λ t. timeoutOf (sent-whole t) .answer) (λ t. sent-parts (timeoutOf (sent-whole t) .state)) (λ t. sent-stored t (λ s. timeoutOf s .answer)) (λ t. sent-next t (λ s. timeoutOf s .state)) (λ t. sized t) }
 
 sent-sound-promise : Exported sent-sound.ended (λ M 𝓤. sent-sound.clauses 𝓤) (Ref-0.seen tracker (uint w32) sent-sound-key.name (λ s. soundNumberOf (sent-whole s)))
 sent-sound-promise = record { post = Ref-0.Post tracker (uint w32) sent-sound-key.name (λ s. soundNumberOf (sent-whole s)); asks-nothing = λ M 𝓤 H A mem run κs a g. refl; says = λ M 𝓤 H A mem run κs a g r e. refl; promise = Ref-0.promise tracker (uint w32) sent-sound-key.name (λ s. soundNumberOf (sent-whole s)) }
@@ -153,11 +154,11 @@ sent-lost-at-promise = record { post = Ref-nrrr.Post tracker (uint w32) (uint w6
 recv-new-promise : Exported recv-new.ended (λ M 𝓤. recv-new.clauses 𝓤) (Mut-nn.seen receiver (uint w16) (uint w64) (uint w32) receiving recv-new-key.name recv-new)
 recv-new-promise = record { post = Mut-nn.Post receiver (uint w16) (uint w64) (uint w32) receiving recv-new-key.name recv-new; asks-nothing = λ M 𝓤 H A mem run κs a g. refl; says = λ M 𝓤 H A mem run κs a g r e. refl; promise = Mut-nn.promise receiver (uint w16) (uint w64) (uint w32) receiving recv-new-key.name recv-new }
 
-recv-write-promise : Exported recv-write.ended (λ M 𝓤. recv-write.clauses 𝓤) (Part-vl-mns.seen counts receiver-name table Receiver receiver-to receiver-one (λ t. t .counts) (λ t. refl) receiver-lawful (uint w8) (uint w16) (uint w8) (uint w32) counting recv-write-key.name (λ c w y1 y2 y3. countingOf (writeOf (recv-in c w) y1 y2 y3)) (λ c w y1 y2 y3. writeOf (recv-in c w) y1 y2 y3 .state .waiting) (λ c w y1 y2 y3. writtenRoomOf (recv-in c w) y1 (record { 0 = y2 }) y3) (λ t y1 y2 y3. writeOf (recv-whole t) y1 y2 y3 .answer) (λ t y1 y2 y3. recv-parts (writeOf (recv-whole t) y1 y2 y3 .state)) (λ t y1 y2 y3. writtenRoomOf (recv-whole t) y1 (record { 0 = y2 }) y3) (λ t y1 y2 y3. stored t (λ s. writeOf s y1 y2 y3 .answer)) (λ t y1 y2 y3. next-is t (λ s. writeOf s y1 y2 y3 .state)) (λ t y1 y2 y3. stored t (λ s. writtenRoomOf s y1 (record { 0 = y2 }) y3)))
-recv-write-promise = record { post = Part-vl-mns.Post counts receiver-name table Receiver receiver-to receiver-one (λ t. t .counts) (λ t. refl) receiver-lawful (uint w8) (uint w16) (uint w8) (uint w32) counting recv-write-key.name (λ c w y1 y2 y3. countingOf (writeOf (recv-in c w) y1 y2 y3)) (λ c w y1 y2 y3. writeOf (recv-in c w) y1 y2 y3 .state .waiting) (λ c w y1 y2 y3. writtenRoomOf (recv-in c w) y1 (record { 0 = y2 }) y3) (λ t y1 y2 y3. writeOf (recv-whole t) y1 y2 y3 .answer) (λ t y1 y2 y3. recv-parts (writeOf (recv-whole t) y1 y2 y3 .state)) (λ t y1 y2 y3. writtenRoomOf (recv-whole t) y1 (record { 0 = y2 }) y3) (λ t y1 y2 y3. stored t (λ s. writeOf s y1 y2 y3 .answer)) (λ t y1 y2 y3. next-is t (λ s. writeOf s y1 y2 y3 .state)) (λ t y1 y2 y3. stored t (λ s. writtenRoomOf s y1 (record { 0 = y2 }) y3)); asks-nothing = λ M 𝓤 H A mem run κs a g. refl; says = λ M 𝓤 H A mem run κs a g r e. refl; promise = Part-vl-mns.promise counts receiver-name table Receiver receiver-to receiver-one (λ t. t .counts) (λ t. refl) receiver-lawful (uint w8) (uint w16) (uint w8) (uint w32) counting recv-write-key.name (λ c w y1 y2 y3. countingOf (writeOf (recv-in c w) y1 y2 y3)) (λ c w y1 y2 y3. writeOf (recv-in c w) y1 y2 y3 .state .waiting) (λ c w y1 y2 y3. writtenRoomOf (recv-in c w) y1 (record { 0 = y2 }) y3) (λ t y1 y2 y3. writeOf (recv-whole t) y1 y2 y3 .answer) (λ t y1 y2 y3. recv-parts (writeOf (recv-whole t) y1 y2 y3 .state)) (λ t y1 y2 y3. writtenRoomOf (recv-whole t) y1 (record { 0 = y2 }) y3) (λ t y1 y2 y3. stored t (λ s. writeOf s y1 y2 y3 .answer)) (λ t y1 y2 y3. next-is t (λ s. writeOf s y1 y2 y3 .state)) (λ t y1 y2 y3. stored t (λ s. writtenRoomOf s y1 (record { 0 = y2 }) y3)) }
+recv-write-promise : Exported recv-write.ended (λ M 𝓤. recv-write.clauses 𝓤) (Part-vl-mns.seen counts receiver-name table Receiver receiver-to receiver-one (λ t. t .counts) (λ t. refl) receiver-lawful (uint w8) (uint w16) (uint w8) (uint w32) counting recv-write-key.name (λ c w y1 y2 y3. countingOf (writeOf (whole c w) y1 y2 y3)) (λ c w y1 y2 y3. writeOf (whole c w) y1 y2 y3 .state .waiting) (λ c w y1 y2 y3. writtenRoomOf (whole c w) y1 (record { 0 = y2 }) y3) (λ t y1 y2 y3. writeOf (recv-whole t) y1 y2 y3 .answer) (λ t y1 y2 y3. recv-parts (writeOf (recv-whole t) y1 y2 y3 .state)) (λ t y1 y2 y3. writtenRoomOf (recv-whole t) y1 (record { 0 = y2 }) y3) (λ t y1 y2 y3. stored t (λ s. writeOf s y1 y2 y3 .answer)) (λ t y1 y2 y3. next-is t (λ s. writeOf s y1 y2 y3 .state)) (λ t y1 y2 y3. stored t (λ s. writtenRoomOf s y1 (record { 0 = y2 }) y3)))
+recv-write-promise = record { post = Part-vl-mns.Post counts receiver-name table Receiver receiver-to receiver-one (λ t. t .counts) (λ t. refl) receiver-lawful (uint w8) (uint w16) (uint w8) (uint w32) counting recv-write-key.name (λ c w y1 y2 y3. countingOf (writeOf (whole c w) y1 y2 y3)) (λ c w y1 y2 y3. writeOf (whole c w) y1 y2 y3 .state .waiting) (λ c w y1 y2 y3. writtenRoomOf (whole c w) y1 (record { 0 = y2 }) y3) (λ t y1 y2 y3. writeOf (recv-whole t) y1 y2 y3 .answer) (λ t y1 y2 y3. recv-parts (writeOf (recv-whole t) y1 y2 y3 .state)) (λ t y1 y2 y3. writtenRoomOf (recv-whole t) y1 (record { 0 = y2 }) y3) (λ t y1 y2 y3. stored t (λ s. writeOf s y1 y2 y3 .answer)) (λ t y1 y2 y3. next-is t (λ s. writeOf s y1 y2 y3 .state)) (λ t y1 y2 y3. stored t (λ s. writtenRoomOf s y1 (record { 0 = y2 }) y3)); asks-nothing = λ M 𝓤 H A mem run κs a g. refl; says = λ M 𝓤 H A mem run κs a g r e. refl; promise = Part-vl-mns.promise counts receiver-name table Receiver receiver-to receiver-one (λ t. t .counts) (λ t. refl) receiver-lawful (uint w8) (uint w16) (uint w8) (uint w32) counting recv-write-key.name (λ c w y1 y2 y3. countingOf (writeOf (whole c w) y1 y2 y3)) (λ c w y1 y2 y3. writeOf (whole c w) y1 y2 y3 .state .waiting) (λ c w y1 y2 y3. writtenRoomOf (whole c w) y1 (record { 0 = y2 }) y3) (λ t y1 y2 y3. writeOf (recv-whole t) y1 y2 y3 .answer) (λ t y1 y2 y3. recv-parts (writeOf (recv-whole t) y1 y2 y3 .state)) (λ t y1 y2 y3. writtenRoomOf (recv-whole t) y1 (record { 0 = y2 }) y3) (λ t y1 y2 y3. stored t (λ s. writeOf s y1 y2 y3 .answer)) (λ t y1 y2 y3. next-is t (λ s. writeOf s y1 y2 y3 .state)) (λ t y1 y2 y3. stored t (λ s. writtenRoomOf s y1 (record { 0 = y2 }) y3)) }
 
-recv-read-promise : Exported recv-read.ended (λ M 𝓤. recv-read.clauses 𝓤) (Part-vl-mmr.seen counts receiver-name table Receiver receiver-to receiver-one (λ t. t .counts) (λ t. refl) receiver-lawful (uint w8) (uint w8) (uint w64) (uint w32) counting recv-read-key.name (λ c w y1 y2 y3. countingOf (recv-read (recv-in c w) y1 y2)) (λ c w y1 y2 y3. recv-read (recv-in c w) y1 y2 .state .waiting) (λ c w y1 y2 y3. takenRoomOf (recv-in c w) y1 y2) (λ c w y1 y2 y3. takenOutOf (recv-in c w) y1 y2) (λ c w y1 y2 y3. valueOr y3 (takenCountOf (recv-in c w) y1 y2)) (λ t y1 y2 y3. recv-read (recv-whole t) y1 y2 .answer) (λ t y1 y2 y3. recv-parts (recv-read (recv-whole t) y1 y2 .state)) (λ t y1 y2 y3. takenRoomOf (recv-whole t) y1 y2) (λ t y1 y2 y3. takenOutOf (recv-whole t) y1 y2) (λ t y1 y2 y3. valueOr y3 (takenCountOf (recv-whole t) y1 y2)) (λ t y1 y2 y3. stored t (λ s. recv-read s y1 y2 .answer)) (λ t y1 y2 y3. next-is t (λ s. recv-read s y1 y2 .state)) (λ t y1 y2 y3. stored t (λ s. takenRoomOf s y1 y2)) (λ t y1 y2 y3. stored t (λ s. takenOutOf s y1 y2)) (λ t y1 y2 y3. stored t (λ s. valueOr y3 (takenCountOf s y1 y2))))
-recv-read-promise = record { post = Part-vl-mmr.Post counts receiver-name table Receiver receiver-to receiver-one (λ t. t .counts) (λ t. refl) receiver-lawful (uint w8) (uint w8) (uint w64) (uint w32) counting recv-read-key.name (λ c w y1 y2 y3. countingOf (recv-read (recv-in c w) y1 y2)) (λ c w y1 y2 y3. recv-read (recv-in c w) y1 y2 .state .waiting) (λ c w y1 y2 y3. takenRoomOf (recv-in c w) y1 y2) (λ c w y1 y2 y3. takenOutOf (recv-in c w) y1 y2) (λ c w y1 y2 y3. valueOr y3 (takenCountOf (recv-in c w) y1 y2)) (λ t y1 y2 y3. recv-read (recv-whole t) y1 y2 .answer) (λ t y1 y2 y3. recv-parts (recv-read (recv-whole t) y1 y2 .state)) (λ t y1 y2 y3. takenRoomOf (recv-whole t) y1 y2) (λ t y1 y2 y3. takenOutOf (recv-whole t) y1 y2) (λ t y1 y2 y3. valueOr y3 (takenCountOf (recv-whole t) y1 y2)) (λ t y1 y2 y3. stored t (λ s. recv-read s y1 y2 .answer)) (λ t y1 y2 y3. next-is t (λ s. recv-read s y1 y2 .state)) (λ t y1 y2 y3. stored t (λ s. takenRoomOf s y1 y2)) (λ t y1 y2 y3. stored t (λ s. takenOutOf s y1 y2)) (λ t y1 y2 y3. stored t (λ s. valueOr y3 (takenCountOf s y1 y2))); asks-nothing = λ M 𝓤 H A mem run κs a g. refl; says = λ M 𝓤 H A mem run κs a g r e. refl; promise = Part-vl-mmr.promise counts receiver-name table Receiver receiver-to receiver-one (λ t. t .counts) (λ t. refl) receiver-lawful (uint w8) (uint w8) (uint w64) (uint w32) counting recv-read-key.name (λ c w y1 y2 y3. countingOf (recv-read (recv-in c w) y1 y2)) (λ c w y1 y2 y3. recv-read (recv-in c w) y1 y2 .state .waiting) (λ c w y1 y2 y3. takenRoomOf (recv-in c w) y1 y2) (λ c w y1 y2 y3. takenOutOf (recv-in c w) y1 y2) (λ c w y1 y2 y3. valueOr y3 (takenCountOf (recv-in c w) y1 y2)) (λ t y1 y2 y3. recv-read (recv-whole t) y1 y2 .answer) (λ t y1 y2 y3. recv-parts (recv-read (recv-whole t) y1 y2 .state)) (λ t y1 y2 y3. takenRoomOf (recv-whole t) y1 y2) (λ t y1 y2 y3. takenOutOf (recv-whole t) y1 y2) (λ t y1 y2 y3. valueOr y3 (takenCountOf (recv-whole t) y1 y2)) (λ t y1 y2 y3. stored t (λ s. recv-read s y1 y2 .answer)) (λ t y1 y2 y3. next-is t (λ s. recv-read s y1 y2 .state)) (λ t y1 y2 y3. stored t (λ s. takenRoomOf s y1 y2)) (λ t y1 y2 y3. stored t (λ s. takenOutOf s y1 y2)) (λ t y1 y2 y3. stored t (λ s. valueOr y3 (takenCountOf s y1 y2))) }
+recv-read-promise : Exported recv-read.ended (λ M 𝓤. recv-read.clauses 𝓤) (Part-vl-mmr.seen counts receiver-name table Receiver receiver-to receiver-one (λ t. t .counts) (λ t. refl) receiver-lawful (uint w8) (uint w8) (uint w64) (uint w32) counting recv-read-key.name (λ c w y1 y2 y3. countingOf (recv-read (whole c w) y1 y2)) (λ c w y1 y2 y3. recv-read (whole c w) y1 y2 .state .waiting) (λ c w y1 y2 y3. takenRoomOf (whole c w) y1 y2) (λ c w y1 y2 y3. takenOutOf (whole c w) y1 y2) (λ c w y1 y2 y3. valueOr y3 (takenCountOf (whole c w) y1 y2)) (λ t y1 y2 y3. recv-read (recv-whole t) y1 y2 .answer) (λ t y1 y2 y3. recv-parts (recv-read (recv-whole t) y1 y2 .state)) (λ t y1 y2 y3. takenRoomOf (recv-whole t) y1 y2) (λ t y1 y2 y3. takenOutOf (recv-whole t) y1 y2) (λ t y1 y2 y3. valueOr y3 (takenCountOf (recv-whole t) y1 y2)) (λ t y1 y2 y3. stored t (λ s. recv-read s y1 y2 .answer)) (λ t y1 y2 y3. next-is t (λ s. recv-read s y1 y2 .state)) (λ t y1 y2 y3. stored t (λ s. takenRoomOf s y1 y2)) (λ t y1 y2 y3. stored t (λ s. takenOutOf s y1 y2)) (λ t y1 y2 y3. stored t (λ s. valueOr y3 (takenCountOf s y1 y2))))
+recv-read-promise = record { post = Part-vl-mmr.Post counts receiver-name table Receiver receiver-to receiver-one (λ t. t .counts) (λ t. refl) receiver-lawful (uint w8) (uint w8) (uint w64) (uint w32) counting recv-read-key.name (λ c w y1 y2 y3. countingOf (recv-read (whole c w) y1 y2)) (λ c w y1 y2 y3. recv-read (whole c w) y1 y2 .state .waiting) (λ c w y1 y2 y3. takenRoomOf (whole c w) y1 y2) (λ c w y1 y2 y3. takenOutOf (whole c w) y1 y2) (λ c w y1 y2 y3. valueOr y3 (takenCountOf (whole c w) y1 y2)) (λ t y1 y2 y3. recv-read (recv-whole t) y1 y2 .answer) (λ t y1 y2 y3. recv-parts (recv-read (recv-whole t) y1 y2 .state)) (λ t y1 y2 y3. takenRoomOf (recv-whole t) y1 y2) (λ t y1 y2 y3. takenOutOf (recv-whole t) y1 y2) (λ t y1 y2 y3. valueOr y3 (takenCountOf (recv-whole t) y1 y2)) (λ t y1 y2 y3. stored t (λ s. recv-read s y1 y2 .answer)) (λ t y1 y2 y3. next-is t (λ s. recv-read s y1 y2 .state)) (λ t y1 y2 y3. stored t (λ s. takenRoomOf s y1 y2)) (λ t y1 y2 y3. stored t (λ s. takenOutOf s y1 y2)) (λ t y1 y2 y3. stored t (λ s. valueOr y3 (takenCountOf s y1 y2))); asks-nothing = λ M 𝓤 H A mem run κs a g. refl; says = λ M 𝓤 H A mem run κs a g r e. refl; promise = Part-vl-mmr.promise counts receiver-name table Receiver receiver-to receiver-one (λ t. t .counts) (λ t. refl) receiver-lawful (uint w8) (uint w8) (uint w64) (uint w32) counting recv-read-key.name (λ c w y1 y2 y3. countingOf (recv-read (whole c w) y1 y2)) (λ c w y1 y2 y3. recv-read (whole c w) y1 y2 .state .waiting) (λ c w y1 y2 y3. takenRoomOf (whole c w) y1 y2) (λ c w y1 y2 y3. takenOutOf (whole c w) y1 y2) (λ c w y1 y2 y3. valueOr y3 (takenCountOf (whole c w) y1 y2)) (λ t y1 y2 y3. recv-read (recv-whole t) y1 y2 .answer) (λ t y1 y2 y3. recv-parts (recv-read (recv-whole t) y1 y2 .state)) (λ t y1 y2 y3. takenRoomOf (recv-whole t) y1 y2) (λ t y1 y2 y3. takenOutOf (recv-whole t) y1 y2) (λ t y1 y2 y3. valueOr y3 (takenCountOf (recv-whole t) y1 y2)) (λ t y1 y2 y3. stored t (λ s. recv-read s y1 y2 .answer)) (λ t y1 y2 y3. next-is t (λ s. recv-read s y1 y2 .state)) (λ t y1 y2 y3. stored t (λ s. takenRoomOf s y1 y2)) (λ t y1 y2 y3. stored t (λ s. takenOutOf s y1 y2)) (λ t y1 y2 y3. stored t (λ s. valueOr y3 (takenCountOf s y1 y2))) }
 
 recv-selective-ack-promise : Exported recv-selective-ack.ended (λ M 𝓤. recv-selective-ack.clauses 𝓤) (Ref-mr.seen receiver (uint w8) (uint w64) (uint w32) recv-selective-ack-key.name (λ s b n. numberOf (sackAnswer s b)) (λ s b n. ackedRoomOf s b) (λ s b n. valueOr n (sackAnswer s b)))
 recv-selective-ack-promise = record { post = Ref-mr.Post receiver (uint w8) (uint w64) (uint w32) recv-selective-ack-key.name (λ s b n. numberOf (sackAnswer s b)) (λ s b n. ackedRoomOf s b) (λ s b n. valueOr n (sackAnswer s b)); asks-nothing = λ M 𝓤 H A mem run κs a g. refl; says = λ M 𝓤 H A mem run κs a g r e. refl; promise = Ref-mr.promise receiver (uint w8) (uint w64) (uint w32) recv-selective-ack-key.name (λ s b n. numberOf (sackAnswer s b)) (λ s b n. ackedRoomOf s b) (λ s b n. valueOr n (sackAnswer s b)) }

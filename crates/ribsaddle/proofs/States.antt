@@ -34,12 +34,13 @@ use Rattle.ribsaddle.proofs.tracker.Tracker as T
 use Rattle.ribsaddle.proofs.tracker.Tracker.Laws as T′
 use Rattle.ribsaddle.specs.Tracker.{Sized, partsOf as sentParts, wholeOf as sentWhole}
 use Rattle.ribsaddle.specs.declared.tracker.Tracker.{Tracker}
-use Rattle.ribsaddle.specs.Parts.{countsOf, partsOf, wholeIn, wholeOf}
+use Rattle.recv.specs.Lent.{countsOf, whole}
+use Rattle.ribsaddle.specs.Parts.{partsOf, wholeOf}
 use Rattle.ribsaddle.specs.declared.receiver.Receiver.{Receiver}
 use Rattle.ribsaddle.proofs.receiver.Counting as Count
 use Rattle.ribsaddle.proofs.receiver.Counting.Laws as Count′
-use Rattle.ribsaddle.proofs.receiver.Counts as C
-use Rattle.ribsaddle.proofs.receiver.Counts.Laws as C′
+use Rattle.recv.proofs.Counts as C
+use Rattle.recv.proofs.Counts.Laws as C′
 use Rattle.ribsaddle.proofs.receiver.Receiver as Parts
 use Rattle.ribsaddle.proofs.receiver.Receiver.Laws as Parts′
 use Rattle.ribsaddle.proofs.receiver.Receiving as Receive
@@ -127,12 +128,12 @@ abbrev pub receiver-lawful : (M : Type 1) (𝓤 : URA M) (H : Heap 𝓤) (A : At
 receiver-lawful M 𝓤 H A W = LL.lawfuls 𝓤 H A W (Parts.the-type .parts) Parts′.the-laws
 
 -- the table in memory is the list itself
-pub stored : (t : Receiver) {X : Type 0} (f : ReceiveBuffer → X) → f (wholeIn (t .counts) (receiver-to t .1 .0)) ≡ f (wholeOf t)
-stored t f = ap (λ (l : List ℕ). f (wholeIn (t .counts) l)) (map-id (t .waiting))
+pub stored : (t : Receiver) {X : Type 0} (f : ReceiveBuffer → X) → f (whole (t .counts) (receiver-to t .1 .0)) ≡ f (wholeOf t)
+stored t f = ap (λ (l : List ℕ). f (whole (t .counts) l)) (map-id (t .waiting))
 
 pub next-is :
     (t : Receiver) (f : ReceiveBuffer → ReceiveBuffer)
-    → (counts .T .to (countsOf (f (wholeIn (t .counts) (receiver-to t .1 .0)))), (f (wholeIn (t .counts) (receiver-to t .1 .0)) .waiting, tt)) ≡ receiver-to (partsOf (f (wholeOf t)))
+    → (counts .T .to (countsOf (f (whole (t .counts) (receiver-to t .1 .0)))), (f (whole (t .counts) (receiver-to t .1 .0)) .waiting, tt)) ≡ receiver-to (partsOf (f (wholeOf t)))
 next-is t f = λ i. (counts .T .to (countsOf (stored t f i)), ((stored t (λ s. f s .waiting) ∙ sym (map-id (f (wholeOf t) .waiting))) i, tt))
 
 -- ---- the tracker in parts: its head, a state, and its arrays

@@ -7,23 +7,15 @@ ghost use Rattle.recv.specs.Calls.{writtenRoomOf, takenRoomOf, takenOutOf, acke
 ghost use Rattle.ribsaddle.specs.Answer.{numberOf, partOr, valueOr, bitOf};
 ghost use Rattle.ribsaddle.specs.Tracker.{seqOf};
 ghost use Rattle.ribsaddle.specs.Receiver.{countAnswer, truthAnswer, numberAnswer, createdAs, newOf, writeOf, readOf, takenCountOf, sackAnswer};
-ghost use Rattle.ribsaddle.specs.Parts.{wholeIn, wholeOf, partsOf, countingOf};
+ghost use Rattle.recv.specs.Lent.{whole};
+ghost use Rattle.ribsaddle.specs.Parts.{wholeOf, partsOf, countingOf};
 use crate::number;
 use crate::told;
-use packet::seq::SeqNum;
+use recv::Counts;
 use recv::Created;
 use recv::Creation;
 use recv::ReceiveBuffer;
-
-// The counts of a receiver: all of it but the table.
-#[repr(C)]
-pub struct Counts {
-    pub initial: SeqNum,
-    pub length: u32,
-    pub count: u32,
-    pub ready: u32,
-    pub span: u32,
-}
+use wire::seq::SeqNum;
 
 // A receiver in two parts, in memory the same as `ReceiveBuffer`: its table can be lent alone.
 #[repr(C)]
@@ -72,35 +64,18 @@ pub(crate) fn write(
     number: u16,
     payload: &[u8],
 ) -> Counting
-    ensures { λ r. ⌜ (r ≡ countingOf (writeOf (wholeIn counts (now (waiting .entry))) (now (buf .entry)) number (now (payload .entry)))) × (now (waiting .exit) ≡ writeOf (wholeIn counts (now (waiting .entry))) (now (buf .entry)) number (now (payload .entry)) .state .waiting)
-        × (now (buf .exit) ≡ writtenRoomOf (wholeIn counts (now (waiting .entry))) (now (buf .entry)) (record { 0 = number }) (now (payload .entry))) ⌝ }
+    ensures { λ r. let s = whole counts (now (waiting .entry)) in let next = writeOf s (now (buf .entry)) number (now (payload .entry)) in
+        ⌜ (r ≡ countingOf next)
+        × (now (waiting .exit) ≡ next .state .waiting)
+        × (now (buf .exit) ≡ writtenRoomOf s (now (buf .entry)) (record { 0 = number }) (now (payload .entry))) ⌝ }
 {
-    let initial = counts.initial;
-    let length = counts.length;
-    let mut count = counts.count;
-    let mut ready = counts.ready;
-    let mut span = counts.span;
-    let writing = recv::write_in(
-        initial,
-        length,
-        &mut count,
-        &mut ready,
-        &mut span,
-        waiting,
-        buf,
-        SeqNum(number),
-        payload,
-    );
-    let answer = number::of_stored(writing);
+    let step = counts.write_in(waiting, buf, SeqNum(number), payload);
+    let told = step.answer;
+    let after = step.counts;
+    let answer = number::of_stored(told);
     Counting {
         answer,
-        counts: Counts {
-            initial,
-            length,
-            count,
-            ready,
-            span,
-        },
+        counts: after,
     }
 }
 
@@ -112,87 +87,92 @@ pub(crate) fn read(
     out: &mut [u8],
     value: &mut u64,
 ) -> Counting
-    ensures { λ r. ⌜ (r ≡ countingOf (readOf (wholeIn counts (now (waiting .entry))) (now (buf .entry)) (now (out .entry)))) × (now (waiting .exit) ≡ readOf (wholeIn counts (now (waiting .entry))) (now (buf .entry)) (now (out .entry)) .state .waiting)
-        × (now (buf .exit) ≡ takenRoomOf (wholeIn counts (now (waiting .entry))) (now (buf .entry)) (now (out .entry)))
-        × (now (out .exit) ≡ takenOutOf (wholeIn counts (now (waiting .entry))) (now (buf .entry)) (now (out .entry)))
-        × (now (value .exit) ≡ valueOr (now (value .entry)) (takenCountOf (wholeIn counts (now (waiting .entry))) (now (buf .entry)) (now (out .entry)))) ⌝ }
+    ensures { λ r. let s = whole counts (now (waiting .entry)) in let next = readOf s (now (buf .entry)) (now (out .entry)) in
+        ⌜ (r ≡ countingOf next)
+        × (now (waiting .exit) ≡ next .state .waiting)
+        × (now (buf .exit) ≡ takenRoomOf s (now (buf .entry)) (now (out .entry)))
+        × (now (out .exit) ≡ takenOutOf s (now (buf .entry)) (now (out .entry)))
+        × (now (value .exit) ≡ valueOr (now (value .entry)) (takenCountOf s (now (buf .entry)) (now (out .entry)))) ⌝ }
 {
-    let initial = counts.initial;
-    let length = counts.length;
-    let count = counts.count;
-    let mut ready = counts.ready;
-    let span = counts.span;
-    let taken = recv::read_in(initial, length, count, &mut ready, span, waiting, buf, out);
-    let answer = told::tell_count(taken, value);
+    let step = counts.read_in(waiting, buf, out);
+    let told = step.answer;
+    let answer = told::tell_count(told, value);
+    let mut after = counts;
+    after.ready = step.ready;
     Counting {
         answer,
-        counts: Counts {
-            initial,
-            length,
-            count,
-            ready,
-            span,
-        },
+        counts: after,
     }
 }
 
 pub(crate) fn selective_ack(state: ReceiveBuffer, room: &mut [u8], size: &mut u64) -> u32
-    ensures { λ r. ⌜ (r ≡ numberOf (sackAnswer state (now (room .entry)))) × (now (room .exit) ≡ ackedRoomOf state (now (room .entry)))
-        × (now (size .exit) ≡ valueOr (now (size .entry)) (sackAnswer state (now (room .entry)))) ⌝ }
+    ensures { λ r. let told = sackAnswer state (now (room .entry)) in
+        ⌜ (r ≡ numberOf told)
+        × (now (room .exit) ≡ ackedRoomOf state (now (room .entry)))
+        × (now (size .exit) ≡ valueOr (now (size .entry)) told) ⌝ }
 {
     told::tell_count(state.selective_ack(room), size)
 }
 
 pub(crate) fn available(state: ReceiveBuffer, value: &mut u64) -> u32
-    ensures { λ r. ⌜ (r ≡ numberOf (countAnswer (countedOf state (freeOf (state .length) (state .ready) (tableOf state))))) × (now (value .exit) ≡ valueOr (now (value .entry)) (countAnswer (countedOf state (freeOf (state .length) (state .ready) (tableOf state))))) ⌝ }
+    ensures { λ r. let told = countAnswer (countedOf state (freeOf (state .length) (state .ready) (tableOf state))) in
+        ⌜ (r ≡ numberOf told) × (now (value .exit) ≡ valueOr (now (value .entry)) told) ⌝ }
 {
     told::tell_count(state.available(), value)
 }
 
 pub(crate) fn is_empty(state: ReceiveBuffer, value: &mut u64) -> u32
-    ensures { λ r. ⌜ (r ≡ numberOf (truthAnswer (toldOf state (emptyOf state)))) × (now (value .exit) ≡ partOr bitOf (now (value .entry)) (truthAnswer (toldOf state (emptyOf state)))) ⌝ }
+    ensures { λ r. let told = truthAnswer (toldOf state (emptyOf state)) in
+        ⌜ (r ≡ numberOf told) × (now (value .exit) ≡ partOr bitOf (now (value .entry)) told) ⌝ }
 {
     told::tell_whether(state.is_empty(), value)
 }
 
 pub(crate) fn init_seq_num(state: ReceiveBuffer, value: &mut u64) -> u32
-    ensures { λ r. ⌜ (r ≡ numberOf (numberAnswer (numberedOf state (state .initial)))) × (now (value .exit) ≡ partOr seqOf (now (value .entry)) (numberAnswer (numberedOf state (state .initial)))) ⌝ }
+    ensures { λ r. let told = numberAnswer (numberedOf state (state .initial)) in
+        ⌜ (r ≡ numberOf told) × (now (value .exit) ≡ partOr seqOf (now (value .entry)) told) ⌝ }
 {
     told::tell_which(state.init_seq_num(), value)
 }
 
 pub(crate) fn ack_num(state: ReceiveBuffer, value: &mut u64) -> u32
-    ensures { λ r. ⌜ (r ≡ numberOf (numberAnswer (numberedOf state (ackOf state)))) × (now (value .exit) ≡ partOr seqOf (now (value .entry)) (numberAnswer (numberedOf state (ackOf state)))) ⌝ }
+    ensures { λ r. let told = numberAnswer (numberedOf state (ackOf state)) in
+        ⌜ (r ≡ numberOf told) × (now (value .exit) ≡ partOr seqOf (now (value .entry)) told) ⌝ }
 {
     told::tell_which(state.ack_num(), value)
 }
 
 pub(crate) fn count(state: ReceiveBuffer, value: &mut u64) -> u32
-    ensures { λ r. ⌜ (r ≡ numberOf (countAnswer (countedOf state (state .count)))) × (now (value .exit) ≡ valueOr (now (value .entry)) (countAnswer (countedOf state (state .count)))) ⌝ }
+    ensures { λ r. let told = countAnswer (countedOf state (state .count)) in
+        ⌜ (r ≡ numberOf told) × (now (value .exit) ≡ valueOr (now (value .entry)) told) ⌝ }
 {
     told::tell_count(state.count(), value)
 }
 
 pub(crate) fn ready(state: ReceiveBuffer, value: &mut u64) -> u32
-    ensures { λ r. ⌜ (r ≡ numberOf (countAnswer (countedOf state (state .ready)))) × (now (value .exit) ≡ valueOr (now (value .entry)) (countAnswer (countedOf state (state .ready)))) ⌝ }
+    ensures { λ r. let told = countAnswer (countedOf state (state .ready)) in
+        ⌜ (r ≡ numberOf told) × (now (value .exit) ≡ valueOr (now (value .entry)) told) ⌝ }
 {
     told::tell_count(state.ready(), value)
 }
 
 pub(crate) fn waiting(state: ReceiveBuffer, value: &mut u64) -> u32
-    ensures { λ r. ⌜ (r ≡ numberOf (countAnswer (countedOf state (howMany (tableOf state))))) × (now (value .exit) ≡ valueOr (now (value .entry)) (countAnswer (countedOf state (howMany (tableOf state))))) ⌝ }
+    ensures { λ r. let told = countAnswer (countedOf state (howMany (tableOf state))) in
+        ⌜ (r ≡ numberOf told) × (now (value .exit) ≡ valueOr (now (value .entry)) told) ⌝ }
 {
     told::tell_count(state.waiting(), value)
 }
 
 pub(crate) fn waiting_bytes(state: ReceiveBuffer, value: &mut u64) -> u32
-    ensures { λ r. ⌜ (r ≡ numberOf (countAnswer (countedOf state (bytesIn (tableOf state))))) × (now (value .exit) ≡ valueOr (now (value .entry)) (countAnswer (countedOf state (bytesIn (tableOf state))))) ⌝ }
+    ensures { λ r. let told = countAnswer (countedOf state (bytesIn (tableOf state))) in
+        ⌜ (r ≡ numberOf told) × (now (value .exit) ≡ valueOr (now (value .entry)) told) ⌝ }
 {
     told::tell_count(state.waiting_bytes(), value)
 }
 
 pub(crate) fn was_written(state: ReceiveBuffer, number: u16, value: &mut u64) -> u32
-    ensures { λ r. ⌜ (r ≡ numberOf (truthAnswer (toldOf state (writtenBefore state (record { 0 = number }))))) × (now (value .exit) ≡ partOr bitOf (now (value .entry)) (truthAnswer (toldOf state (writtenBefore state (record { 0 = number }))))) ⌝ }
+    ensures { λ r. let told = truthAnswer (toldOf state (writtenBefore state (record { 0 = number }))) in
+        ⌜ (r ≡ numberOf told) × (now (value .exit) ≡ partOr bitOf (now (value .entry)) told) ⌝ }
 {
     told::tell_whether(state.was_written(SeqNum(number)), value)
 }
@@ -217,8 +197,10 @@ pub extern "C" fn ribsaddle_recv_write(
     number: u16,
     payload: &[u8],
 ) -> u32
-    ensures { λ r. ⌜ (r ≡ writeOf (wholeOf (now (recv .entry))) (now (buf .entry)) number (now (payload .entry)) .answer) × (now (recv .exit) ≡ partsOf (writeOf (wholeOf (now (recv .entry))) (now (buf .entry)) number (now (payload .entry)) .state))
-        × (now (buf .exit) ≡ writtenRoomOf (wholeOf (now (recv .entry))) (now (buf .entry)) (record { 0 = number }) (now (payload .entry))) ⌝ }
+    ensures { λ r. let s = wholeOf (now (recv .entry)) in let next = writeOf s (now (buf .entry)) number (now (payload .entry)) in
+        ⌜ (r ≡ next .answer)
+        × (now (recv .exit) ≡ partsOf (next .state))
+        × (now (buf .exit) ≡ writtenRoomOf s (now (buf .entry)) (record { 0 = number }) (now (payload .entry))) ⌝ }
 {
     let counts = recv.counts;
     let counting = write(counts, &mut recv.waiting, buf, number, payload);
@@ -235,10 +217,12 @@ pub extern "C" fn ribsaddle_recv_read(
     out: &mut [u8],
     count: &mut u64,
 ) -> u32
-    ensures { λ r. ⌜ (r ≡ readOf (wholeOf (now (recv .entry))) (now (buf .entry)) (now (out .entry)) .answer) × (now (recv .exit) ≡ partsOf (readOf (wholeOf (now (recv .entry))) (now (buf .entry)) (now (out .entry)) .state))
-        × (now (buf .exit) ≡ takenRoomOf (wholeOf (now (recv .entry))) (now (buf .entry)) (now (out .entry)))
-        × (now (out .exit) ≡ takenOutOf (wholeOf (now (recv .entry))) (now (buf .entry)) (now (out .entry)))
-        × (now (count .exit) ≡ valueOr (now (count .entry)) (takenCountOf (wholeOf (now (recv .entry))) (now (buf .entry)) (now (out .entry)))) ⌝ }
+    ensures { λ r. let s = wholeOf (now (recv .entry)) in let next = readOf s (now (buf .entry)) (now (out .entry)) in
+        ⌜ (r ≡ next .answer)
+        × (now (recv .exit) ≡ partsOf (next .state))
+        × (now (buf .exit) ≡ takenRoomOf s (now (buf .entry)) (now (out .entry)))
+        × (now (out .exit) ≡ takenOutOf s (now (buf .entry)) (now (out .entry)))
+        × (now (count .exit) ≡ valueOr (now (count .entry)) (takenCountOf s (now (buf .entry)) (now (out .entry)))) ⌝ }
 {
     let counts = recv.counts;
     let counting = read(counts, &mut recv.waiting, buf, out, count);
@@ -254,8 +238,10 @@ pub extern "C" fn ribsaddle_recv_selective_ack(
     room: &mut [u8],
     size: &mut u64,
 ) -> u32
-    ensures { λ r. ⌜ (r ≡ numberOf (sackAnswer (now (recv .entry)) (now (room .entry)))) × (now (room .exit) ≡ ackedRoomOf (now (recv .entry)) (now (room .entry)))
-        × (now (size .exit) ≡ valueOr (now (size .entry)) (sackAnswer (now (recv .entry)) (now (room .entry)))) ⌝ }
+    ensures { λ r. let s = now (recv .entry) in let told = sackAnswer s (now (room .entry)) in
+        ⌜ (r ≡ numberOf told)
+        × (now (room .exit) ≡ ackedRoomOf s (now (room .entry)))
+        × (now (size .exit) ≡ valueOr (now (size .entry)) told) ⌝ }
 {
     let state = *recv;
     selective_ack(state, room, size)
@@ -264,7 +250,8 @@ pub extern "C" fn ribsaddle_recv_selective_ack(
 // How many bytes more the buffer can hold. This and what follows refuse with 19.
 #[no_mangle]
 pub extern "C" fn ribsaddle_recv_available(recv: &ReceiveBuffer, value: &mut u64) -> u32
-    ensures { λ r. ⌜ (r ≡ numberOf (countAnswer (countedOf (now (recv .entry)) (freeOf ((now (recv .entry)) .length) ((now (recv .entry)) .ready) (tableOf (now (recv .entry))))))) × (now (value .exit) ≡ valueOr (now (value .entry)) (countAnswer (countedOf (now (recv .entry)) (freeOf ((now (recv .entry)) .length) ((now (recv .entry)) .ready) (tableOf (now (recv .entry))))))) ⌝ }
+    ensures { λ r. let s = now (recv .entry) in let told = countAnswer (countedOf s (freeOf (s .length) (s .ready) (tableOf s))) in
+        ⌜ (r ≡ numberOf told) × (now (value .exit) ≡ valueOr (now (value .entry)) told) ⌝ }
 {
     let state = *recv;
     available(state, value)
@@ -273,7 +260,8 @@ pub extern "C" fn ribsaddle_recv_available(recv: &ReceiveBuffer, value: &mut u64
 // 1 where no byte is ready and nothing waits, else 0.
 #[no_mangle]
 pub extern "C" fn ribsaddle_recv_is_empty(recv: &ReceiveBuffer, value: &mut u64) -> u32
-    ensures { λ r. ⌜ (r ≡ numberOf (truthAnswer (toldOf (now (recv .entry)) (emptyOf (now (recv .entry)))))) × (now (value .exit) ≡ partOr bitOf (now (value .entry)) (truthAnswer (toldOf (now (recv .entry)) (emptyOf (now (recv .entry)))))) ⌝ }
+    ensures { λ r. let s = now (recv .entry) in let told = truthAnswer (toldOf s (emptyOf s)) in
+        ⌜ (r ≡ numberOf told) × (now (value .exit) ≡ partOr bitOf (now (value .entry)) told) ⌝ }
 {
     let state = *recv;
     is_empty(state, value)
@@ -282,7 +270,8 @@ pub extern "C" fn ribsaddle_recv_is_empty(recv: &ReceiveBuffer, value: &mut u64)
 // The number before the first payload's.
 #[no_mangle]
 pub extern "C" fn ribsaddle_recv_init_seq_num(recv: &ReceiveBuffer, value: &mut u64) -> u32
-    ensures { λ r. ⌜ (r ≡ numberOf (numberAnswer (numberedOf (now (recv .entry)) ((now (recv .entry)) .initial)))) × (now (value .exit) ≡ partOr seqOf (now (value .entry)) (numberAnswer (numberedOf (now (recv .entry)) ((now (recv .entry)) .initial)))) ⌝ }
+    ensures { λ r. let s = now (recv .entry) in let told = numberAnswer (numberedOf s (s .initial)) in
+        ⌜ (r ≡ numberOf told) × (now (value .exit) ≡ partOr seqOf (now (value .entry)) told) ⌝ }
 {
     let state = *recv;
     init_seq_num(state, value)
@@ -291,7 +280,8 @@ pub extern "C" fn ribsaddle_recv_init_seq_num(recv: &ReceiveBuffer, value: &mut 
 // The last number of the payloads in order.
 #[no_mangle]
 pub extern "C" fn ribsaddle_recv_ack_num(recv: &ReceiveBuffer, value: &mut u64) -> u32
-    ensures { λ r. ⌜ (r ≡ numberOf (numberAnswer (numberedOf (now (recv .entry)) (ackOf (now (recv .entry)))))) × (now (value .exit) ≡ partOr seqOf (now (value .entry)) (numberAnswer (numberedOf (now (recv .entry)) (ackOf (now (recv .entry)))))) ⌝ }
+    ensures { λ r. let s = now (recv .entry) in let told = numberAnswer (numberedOf s (ackOf s)) in
+        ⌜ (r ≡ numberOf told) × (now (value .exit) ≡ partOr seqOf (now (value .entry)) told) ⌝ }
 {
     let state = *recv;
     ack_num(state, value)
@@ -300,7 +290,8 @@ pub extern "C" fn ribsaddle_recv_ack_num(recv: &ReceiveBuffer, value: &mut u64) 
 // How many payloads are in order.
 #[no_mangle]
 pub extern "C" fn ribsaddle_recv_count(recv: &ReceiveBuffer, value: &mut u64) -> u32
-    ensures { λ r. ⌜ (r ≡ numberOf (countAnswer (countedOf (now (recv .entry)) ((now (recv .entry)) .count)))) × (now (value .exit) ≡ valueOr (now (value .entry)) (countAnswer (countedOf (now (recv .entry)) ((now (recv .entry)) .count)))) ⌝ }
+    ensures { λ r. let s = now (recv .entry) in let told = countAnswer (countedOf s (s .count)) in
+        ⌜ (r ≡ numberOf told) × (now (value .exit) ≡ valueOr (now (value .entry)) told) ⌝ }
 {
     let state = *recv;
     count(state, value)
@@ -309,7 +300,8 @@ pub extern "C" fn ribsaddle_recv_count(recv: &ReceiveBuffer, value: &mut u64) ->
 // How many bytes are ready.
 #[no_mangle]
 pub extern "C" fn ribsaddle_recv_ready(recv: &ReceiveBuffer, value: &mut u64) -> u32
-    ensures { λ r. ⌜ (r ≡ numberOf (countAnswer (countedOf (now (recv .entry)) ((now (recv .entry)) .ready)))) × (now (value .exit) ≡ valueOr (now (value .entry)) (countAnswer (countedOf (now (recv .entry)) ((now (recv .entry)) .ready)))) ⌝ }
+    ensures { λ r. let s = now (recv .entry) in let told = countAnswer (countedOf s (s .ready)) in
+        ⌜ (r ≡ numberOf told) × (now (value .exit) ≡ valueOr (now (value .entry)) told) ⌝ }
 {
     let state = *recv;
     ready(state, value)
@@ -318,7 +310,8 @@ pub extern "C" fn ribsaddle_recv_ready(recv: &ReceiveBuffer, value: &mut u64) ->
 // How many payloads wait.
 #[no_mangle]
 pub extern "C" fn ribsaddle_recv_waiting(recv: &ReceiveBuffer, value: &mut u64) -> u32
-    ensures { λ r. ⌜ (r ≡ numberOf (countAnswer (countedOf (now (recv .entry)) (howMany (tableOf (now (recv .entry))))))) × (now (value .exit) ≡ valueOr (now (value .entry)) (countAnswer (countedOf (now (recv .entry)) (howMany (tableOf (now (recv .entry))))))) ⌝ }
+    ensures { λ r. let s = now (recv .entry) in let told = countAnswer (countedOf s (howMany (tableOf s))) in
+        ⌜ (r ≡ numberOf told) × (now (value .exit) ≡ valueOr (now (value .entry)) told) ⌝ }
 {
     let state = *recv;
     waiting(state, value)
@@ -327,7 +320,8 @@ pub extern "C" fn ribsaddle_recv_waiting(recv: &ReceiveBuffer, value: &mut u64) 
 // How many bytes wait.
 #[no_mangle]
 pub extern "C" fn ribsaddle_recv_waiting_bytes(recv: &ReceiveBuffer, value: &mut u64) -> u32
-    ensures { λ r. ⌜ (r ≡ numberOf (countAnswer (countedOf (now (recv .entry)) (bytesIn (tableOf (now (recv .entry))))))) × (now (value .exit) ≡ valueOr (now (value .entry)) (countAnswer (countedOf (now (recv .entry)) (bytesIn (tableOf (now (recv .entry))))))) ⌝ }
+    ensures { λ r. let s = now (recv .entry) in let told = countAnswer (countedOf s (bytesIn (tableOf s))) in
+        ⌜ (r ≡ numberOf told) × (now (value .exit) ≡ valueOr (now (value .entry)) told) ⌝ }
 {
     let state = *recv;
     waiting_bytes(state, value)
@@ -340,7 +334,8 @@ pub extern "C" fn ribsaddle_recv_was_written(
     number: u16,
     value: &mut u64,
 ) -> u32
-    ensures { λ r. ⌜ (r ≡ numberOf (truthAnswer (toldOf (now (recv .entry)) (writtenBefore (now (recv .entry)) (record { 0 = number }))))) × (now (value .exit) ≡ partOr bitOf (now (value .entry)) (truthAnswer (toldOf (now (recv .entry)) (writtenBefore (now (recv .entry)) (record { 0 = number }))))) ⌝ }
+    ensures { λ r. let s = now (recv .entry) in let told = truthAnswer (toldOf s (writtenBefore s (record { 0 = number }))) in
+        ⌜ (r ≡ numberOf told) × (now (value .exit) ≡ partOr bitOf (now (value .entry)) told) ⌝ }
 {
     let state = *recv;
     was_written(state, number, value)

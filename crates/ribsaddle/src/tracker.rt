@@ -10,11 +10,11 @@ use crate::number;
 use crate::told;
 use congestion::settings::Settings;
 use outgoing::answer::Outcome;
-use packet::header::PacketType;
-use packet::header::TypeRead;
-use packet::seq::SeqNum;
 use sent_lent::head::Head;
 use sent_lent::head::Stepped;
+use wire::kind::PacketType;
+use wire::kind::TypeRead;
+use wire::seq::SeqNum;
 
 // A tracker with each array by itself, so that it can be lent. Of the packet at place i, `times` has
 // the time at i; `sizes` the tag at 2i and the length at 2i + 1; `marks` the type's number at 4i, and
@@ -110,9 +110,13 @@ pub(crate) fn transmit(
     clock: u64,
 ) -> Heading
     requires { ⌜ Sized (now samples) (now times) (now sizes) (now marks) ⌝ }
-    ensures { λ r. ⌜ (r ≡ headingOf (transmitOf (wholeIn head (now (samples .entry)) (now (times .entry)) (now (sizes .entry)) (now (marks .entry))) number «packet_type» tag len clock)) × (now (samples .exit) ≡ pairsOf (transmitOf (wholeIn head (now (samples .entry)) (now (times .entry)) (now (sizes .entry)) (now (marks .entry))) number «packet_type» tag len clock .state .delays .kept))
-        × (now (times .exit) ≡ timesOf (transmitOf (wholeIn head (now (samples .entry)) (now (times .entry)) (now (sizes .entry)) (now (marks .entry))) number «packet_type» tag len clock .state .packets)) × (now (sizes .exit) ≡ sizesOf (transmitOf (wholeIn head (now (samples .entry)) (now (times .entry)) (now (sizes .entry)) (now (marks .entry))) number «packet_type» tag len clock .state .packets))
-        × (now (marks .exit) ≡ marksOf (transmitOf (wholeIn head (now (samples .entry)) (now (times .entry)) (now (sizes .entry)) (now (marks .entry))) number «packet_type» tag len clock .state .packets)) ⌝ }
+    ensures { λ r. let s = wholeIn head (now (samples .entry)) (now (times .entry)) (now (sizes .entry)) (now (marks .entry)) in
+        let next = transmitOf s number «packet_type» tag len clock in
+        ⌜ (r ≡ headingOf next)
+        × (now (samples .exit) ≡ pairsOf (next .state .delays .kept))
+        × (now (times .exit) ≡ timesOf (next .state .packets))
+        × (now (sizes .exit) ≡ sizesOf (next .state .packets))
+        × (now (marks .exit) ≡ marksOf (next .state .packets)) ⌝ }
 {
     match PacketType::of_number(packet_type) {
         TypeRead::Known(known) => numbered(head.on_transmit(
@@ -147,9 +151,13 @@ pub(crate) fn ack(
     delay: u64,
     clock: u64,
 ) -> Heading
-    ensures { λ r. ⌜ (r ≡ headingOf (ackOf (wholeIn head (now (samples .entry)) (now (times .entry)) (now (sizes .entry)) (now (marks .entry))) number (now (sack .entry)) delay clock)) × (now (samples .exit) ≡ pairsOf (ackOf (wholeIn head (now (samples .entry)) (now (times .entry)) (now (sizes .entry)) (now (marks .entry))) number (now (sack .entry)) delay clock .state .delays .kept))
-        × (now (times .exit) ≡ timesOf (ackOf (wholeIn head (now (samples .entry)) (now (times .entry)) (now (sizes .entry)) (now (marks .entry))) number (now (sack .entry)) delay clock .state .packets)) × (now (sizes .exit) ≡ sizesOf (ackOf (wholeIn head (now (samples .entry)) (now (times .entry)) (now (sizes .entry)) (now (marks .entry))) number (now (sack .entry)) delay clock .state .packets))
-        × (now (marks .exit) ≡ marksOf (ackOf (wholeIn head (now (samples .entry)) (now (times .entry)) (now (sizes .entry)) (now (marks .entry))) number (now (sack .entry)) delay clock .state .packets)) ⌝ }
+    ensures { λ r. let s = wholeIn head (now (samples .entry)) (now (times .entry)) (now (sizes .entry)) (now (marks .entry)) in
+        let next = ackOf s number (now (sack .entry)) delay clock in
+        ⌜ (r ≡ headingOf next)
+        × (now (samples .exit) ≡ pairsOf (next .state .delays .kept))
+        × (now (times .exit) ≡ timesOf (next .state .packets))
+        × (now (sizes .exit) ≡ sizesOf (next .state .packets))
+        × (now (marks .exit) ≡ marksOf (next .state .packets)) ⌝ }
 {
     numbered(head.on_ack(
         samples,
@@ -172,9 +180,13 @@ pub(crate) fn time_out(
     marks: &mut [u8; 2048],
 ) -> Heading
     requires { ⌜ Sized (now samples) (now times) (now sizes) (now marks) ⌝ }
-    ensures { λ r. ⌜ (r ≡ headingOf (timeoutOf (wholeIn head (now (samples .entry)) (now (times .entry)) (now (sizes .entry)) (now (marks .entry))))) × (now (samples .exit) ≡ pairsOf (timeoutOf (wholeIn head (now (samples .entry)) (now (times .entry)) (now (sizes .entry)) (now (marks .entry))) .state .delays .kept))
-        × (now (times .exit) ≡ timesOf (timeoutOf (wholeIn head (now (samples .entry)) (now (times .entry)) (now (sizes .entry)) (now (marks .entry))) .state .packets)) × (now (sizes .exit) ≡ sizesOf (timeoutOf (wholeIn head (now (samples .entry)) (now (times .entry)) (now (sizes .entry)) (now (marks .entry))) .state .packets))
-        × (now (marks .exit) ≡ marksOf (timeoutOf (wholeIn head (now (samples .entry)) (now (times .entry)) (now (sizes .entry)) (now (marks .entry))) .state .packets)) ⌝ }
+    ensures { λ r. let s = wholeIn head (now (samples .entry)) (now (times .entry)) (now (sizes .entry)) (now (marks .entry)) in
+        let next = timeoutOf s in
+        ⌜ (r ≡ headingOf next)
+        × (now (samples .exit) ≡ pairsOf (next .state .delays .kept))
+        × (now (times .exit) ≡ timesOf (next .state .packets))
+        × (now (sizes .exit) ≡ sizesOf (next .state .packets))
+        × (now (marks .exit) ≡ marksOf (next .state .packets)) ⌝ }
 {
     numbered(head.on_timeout(samples, times, sizes, marks))
 }
@@ -242,7 +254,8 @@ pub(crate) fn maximum(state: Tracker, value: &mut u64) -> u32
 }
 
 pub(crate) fn lost_count(state: Tracker, value: &mut u64) -> u32
-    ensures { λ r. ⌜ (r ≡ numberOf (readOf (wholeOf state) lostCountIn)) × (now (value .exit) ≡ valueOr (now (value .entry)) (readOf (wholeOf state) lostCountIn)) ⌝ }
+    ensures { λ r. let told = readOf (wholeOf state) lostCountIn in
+        ⌜ (r ≡ numberOf told) × (now (value .exit) ≡ valueOr (now (value .entry)) told) ⌝ }
 {
     let head = state.head;
     let samples = state.samples;
@@ -253,7 +266,8 @@ pub(crate) fn lost_count(state: Tracker, value: &mut u64) -> u32
 }
 
 pub(crate) fn ack_num(state: Tracker, value: &mut u64) -> u32
-    ensures { λ r. ⌜ (r ≡ numberOf (readOf (wholeOf state) ackNumIn)) × (now (value .exit) ≡ partOr seqOf (now (value .entry)) (readOf (wholeOf state) ackNumIn)) ⌝ }
+    ensures { λ r. let told = readOf (wholeOf state) ackNumIn in
+        ⌜ (r ≡ numberOf told) × (now (value .exit) ≡ partOr seqOf (now (value .entry)) told) ⌝ }
 {
     let head = state.head;
     let samples = state.samples;
@@ -264,7 +278,8 @@ pub(crate) fn ack_num(state: Tracker, value: &mut u64) -> u32
 }
 
 pub(crate) fn next_seq_num(state: Tracker, value: &mut u64) -> u32
-    ensures { λ r. ⌜ (r ≡ numberOf (readOf (wholeOf state) nextSeqNumIn)) × (now (value .exit) ≡ partOr seqOf (now (value .entry)) (readOf (wholeOf state) nextSeqNumIn)) ⌝ }
+    ensures { λ r. let told = readOf (wholeOf state) nextSeqNumIn in
+        ⌜ (r ≡ numberOf told) × (now (value .exit) ≡ partOr seqOf (now (value .entry)) told) ⌝ }
 {
     let head = state.head;
     let samples = state.samples;
@@ -275,7 +290,8 @@ pub(crate) fn next_seq_num(state: Tracker, value: &mut u64) -> u32
 }
 
 pub(crate) fn has_unacked(state: Tracker, value: &mut u64) -> u32
-    ensures { λ r. ⌜ (r ≡ numberOf (readOf (wholeOf state) hasUnackedIn)) × (now (value .exit) ≡ partOr bitOf (now (value .entry)) (readOf (wholeOf state) hasUnackedIn)) ⌝ }
+    ensures { λ r. let told = readOf (wholeOf state) hasUnackedIn in
+        ⌜ (r ≡ numberOf told) × (now (value .exit) ≡ partOr bitOf (now (value .entry)) told) ⌝ }
 {
     let head = state.head;
     let samples = state.samples;
@@ -289,7 +305,8 @@ pub(crate) fn has_unacked(state: Tracker, value: &mut u64) -> u32
 }
 
 pub(crate) fn has_lost(state: Tracker, value: &mut u64) -> u32
-    ensures { λ r. ⌜ (r ≡ numberOf (readOf (wholeOf state) hasLostIn)) × (now (value .exit) ≡ partOr bitOf (now (value .entry)) (readOf (wholeOf state) hasLostIn)) ⌝ }
+    ensures { λ r. let told = readOf (wholeOf state) hasLostIn in
+        ⌜ (r ≡ numberOf told) × (now (value .exit) ≡ partOr bitOf (now (value .entry)) told) ⌝ }
 {
     let head = state.head;
     let samples = state.samples;
@@ -303,8 +320,10 @@ pub(crate) fn has_lost(state: Tracker, value: &mut u64) -> u32
 }
 
 pub(crate) fn range(state: Tracker, start: &mut u64, end: &mut u64) -> u32
-    ensures { λ r. ⌜ (r ≡ numberOf (readOf (wholeOf state) seqNumRangeIn)) × (now (start .exit) ≡ partOr startOf (now (start .entry)) (readOf (wholeOf state) seqNumRangeIn))
-        × (now (end .exit) ≡ partOr endOf (now (end .entry)) (readOf (wholeOf state) seqNumRangeIn)) ⌝ }
+    ensures { λ r. let told = readOf (wholeOf state) seqNumRangeIn in
+        ⌜ (r ≡ numberOf told)
+        × (now (start .exit) ≡ partOr startOf (now (start .entry)) told)
+        × (now (end .exit) ≡ partOr endOf (now (end .entry)) told) ⌝ }
 {
     let head = state.head;
     let samples = state.samples;
@@ -325,9 +344,11 @@ pub(crate) fn lost_at(
     packet_type: &mut u64,
     tag: &mut u64,
 ) -> u32
-    ensures { λ r. ⌜ (r ≡ numberOf (lostAnswer (wholeOf state) position)) × (now (number .exit) ≡ partOr lostNumberOf (now (number .entry)) (lostAnswer (wholeOf state) position))
-        × (now («packet_type» .exit) ≡ partOr lostTypeOf (now («packet_type» .entry)) (lostAnswer (wholeOf state) position))
-        × (now (tag .exit) ≡ partOr lostTagOf (now (tag .entry)) (lostAnswer (wholeOf state) position)) ⌝ }
+    ensures { λ r. let told = lostAnswer (wholeOf state) position in
+        ⌜ (r ≡ numberOf told)
+        × (now (number .exit) ≡ partOr lostNumberOf (now (number .entry)) told)
+        × (now («packet_type» .exit) ≡ partOr lostTypeOf (now («packet_type» .entry)) told)
+        × (now (tag .exit) ≡ partOr lostTagOf (now (tag .entry)) told) ⌝ }
 {
     let head = state.head;
     let samples = state.samples;
@@ -384,7 +405,8 @@ pub extern "C" fn ribsaddle_sent_transmit(
     len: u32,
     clock: u64,
 ) -> u32
-    ensures { λ r. ⌜ (r ≡ transmitOf (wholeOf (now (sent .entry))) number «packet_type» tag len clock .answer) × (now (sent .exit) ≡ partsOf (transmitOf (wholeOf (now (sent .entry))) number «packet_type» tag len clock .state)) ⌝ }
+    ensures { λ r. let s = wholeOf (now (sent .entry)) in let next = transmitOf s number «packet_type» tag len clock in
+        ⌜ (r ≡ next .answer) × (now (sent .exit) ≡ partsOf (next .state)) ⌝ }
 {
     let head = sent.head;
     let heading = transmit(
@@ -412,7 +434,8 @@ pub extern "C" fn ribsaddle_sent_ack(
     delay: u64,
     clock: u64,
 ) -> u32
-    ensures { λ r. ⌜ (r ≡ ackOf (wholeOf (now (sent .entry))) number (now (sack .entry)) delay clock .answer) × (now (sent .exit) ≡ partsOf (ackOf (wholeOf (now (sent .entry))) number (now (sack .entry)) delay clock .state)) ⌝ }
+    ensures { λ r. let s = wholeOf (now (sent .entry)) in let next = ackOf s number (now (sack .entry)) delay clock in
+        ⌜ (r ≡ next .answer) × (now (sent .exit) ≡ partsOf (next .state)) ⌝ }
 {
     let head = sent.head;
     let heading = ack(
@@ -459,7 +482,8 @@ pub extern "C" fn ribsaddle_sent_sound(sent: &Tracker) -> u32
 // The timeout. This and what follows refuse with 19.
 #[no_mangle]
 pub extern "C" fn ribsaddle_sent_timeout(sent: &Tracker, value: &mut u64) -> u32
-    ensures { λ r. ⌜ (r ≡ numberOf (readOf (wholeOf (now (sent .entry))) timeoutIn)) × (now (value .exit) ≡ valueOr (now (value .entry)) (readOf (wholeOf (now (sent .entry))) timeoutIn)) ⌝ }
+    ensures { λ r. let s = wholeOf (now (sent .entry)) in let told = readOf s timeoutIn in
+        ⌜ (r ≡ numberOf told) × (now (value .exit) ≡ valueOr (now (value .entry)) told) ⌝ }
 {
     let state = *sent;
     timeout(state, value)
@@ -468,7 +492,8 @@ pub extern "C" fn ribsaddle_sent_timeout(sent: &Tracker, value: &mut u64) -> u32
 // How many bytes may be sent now.
 #[no_mangle]
 pub extern "C" fn ribsaddle_sent_window(sent: &Tracker, value: &mut u64) -> u32
-    ensures { λ r. ⌜ (r ≡ numberOf (readOf (wholeOf (now (sent .entry))) windowIn)) × (now (value .exit) ≡ valueOr (now (value .entry)) (readOf (wholeOf (now (sent .entry))) windowIn)) ⌝ }
+    ensures { λ r. let s = wholeOf (now (sent .entry)) in let told = readOf s windowIn in
+        ⌜ (r ≡ numberOf told) × (now (value .exit) ≡ valueOr (now (value .entry)) told) ⌝ }
 {
     let state = *sent;
     window(state, value)
@@ -477,7 +502,8 @@ pub extern "C" fn ribsaddle_sent_window(sent: &Tracker, value: &mut u64) -> u32
 // The bytes in flight.
 #[no_mangle]
 pub extern "C" fn ribsaddle_sent_in_flight(sent: &Tracker, value: &mut u64) -> u32
-    ensures { λ r. ⌜ (r ≡ numberOf (readOf (wholeOf (now (sent .entry))) inFlightIn)) × (now (value .exit) ≡ valueOr (now (value .entry)) (readOf (wholeOf (now (sent .entry))) inFlightIn)) ⌝ }
+    ensures { λ r. let s = wholeOf (now (sent .entry)) in let told = readOf s inFlightIn in
+        ⌜ (r ≡ numberOf told) × (now (value .exit) ≡ valueOr (now (value .entry)) told) ⌝ }
 {
     let state = *sent;
     in_flight(state, value)
@@ -486,7 +512,8 @@ pub extern "C" fn ribsaddle_sent_in_flight(sent: &Tracker, value: &mut u64) -> u
 // The maximum of the window.
 #[no_mangle]
 pub extern "C" fn ribsaddle_sent_maximum(sent: &Tracker, value: &mut u64) -> u32
-    ensures { λ r. ⌜ (r ≡ numberOf (readOf (wholeOf (now (sent .entry))) maximumIn)) × (now (value .exit) ≡ valueOr (now (value .entry)) (readOf (wholeOf (now (sent .entry))) maximumIn)) ⌝ }
+    ensures { λ r. let s = wholeOf (now (sent .entry)) in let told = readOf s maximumIn in
+        ⌜ (r ≡ numberOf told) × (now (value .exit) ≡ valueOr (now (value .entry)) told) ⌝ }
 {
     let state = *sent;
     maximum(state, value)
@@ -495,7 +522,8 @@ pub extern "C" fn ribsaddle_sent_maximum(sent: &Tracker, value: &mut u64) -> u32
 // How many packets are lost.
 #[no_mangle]
 pub extern "C" fn ribsaddle_sent_lost_count(sent: &Tracker, value: &mut u64) -> u32
-    ensures { λ r. ⌜ (r ≡ numberOf (readOf (wholeOf (now (sent .entry))) lostCountIn)) × (now (value .exit) ≡ valueOr (now (value .entry)) (readOf (wholeOf (now (sent .entry))) lostCountIn)) ⌝ }
+    ensures { λ r. let s = wholeOf (now (sent .entry)) in let told = readOf s lostCountIn in
+        ⌜ (r ≡ numberOf told) × (now (value .exit) ≡ valueOr (now (value .entry)) told) ⌝ }
 {
     let state = *sent;
     lost_count(state, value)
@@ -504,7 +532,8 @@ pub extern "C" fn ribsaddle_sent_lost_count(sent: &Tracker, value: &mut u64) -> 
 // The last number of the acknowledged run, or 0 if none.
 #[no_mangle]
 pub extern "C" fn ribsaddle_sent_ack_num(sent: &Tracker, value: &mut u64) -> u32
-    ensures { λ r. ⌜ (r ≡ numberOf (readOf (wholeOf (now (sent .entry))) ackNumIn)) × (now (value .exit) ≡ partOr seqOf (now (value .entry)) (readOf (wholeOf (now (sent .entry))) ackNumIn)) ⌝ }
+    ensures { λ r. let s = wholeOf (now (sent .entry)) in let told = readOf s ackNumIn in
+        ⌜ (r ≡ numberOf told) × (now (value .exit) ≡ partOr seqOf (now (value .entry)) told) ⌝ }
 {
     let state = *sent;
     ack_num(state, value)
@@ -513,7 +542,8 @@ pub extern "C" fn ribsaddle_sent_ack_num(sent: &Tracker, value: &mut u64) -> u32
 // The number of the next packet.
 #[no_mangle]
 pub extern "C" fn ribsaddle_sent_next_seq_num(sent: &Tracker, value: &mut u64) -> u32
-    ensures { λ r. ⌜ (r ≡ numberOf (readOf (wholeOf (now (sent .entry))) nextSeqNumIn)) × (now (value .exit) ≡ partOr seqOf (now (value .entry)) (readOf (wholeOf (now (sent .entry))) nextSeqNumIn)) ⌝ }
+    ensures { λ r. let s = wholeOf (now (sent .entry)) in let told = readOf s nextSeqNumIn in
+        ⌜ (r ≡ numberOf told) × (now (value .exit) ≡ partOr seqOf (now (value .entry)) told) ⌝ }
 {
     let state = *sent;
     next_seq_num(state, value)
@@ -522,7 +552,8 @@ pub extern "C" fn ribsaddle_sent_next_seq_num(sent: &Tracker, value: &mut u64) -
 // 1 where a packet is not acknowledged, else 0.
 #[no_mangle]
 pub extern "C" fn ribsaddle_sent_has_unacked(sent: &Tracker, value: &mut u64) -> u32
-    ensures { λ r. ⌜ (r ≡ numberOf (readOf (wholeOf (now (sent .entry))) hasUnackedIn)) × (now (value .exit) ≡ partOr bitOf (now (value .entry)) (readOf (wholeOf (now (sent .entry))) hasUnackedIn)) ⌝ }
+    ensures { λ r. let s = wholeOf (now (sent .entry)) in let told = readOf s hasUnackedIn in
+        ⌜ (r ≡ numberOf told) × (now (value .exit) ≡ partOr bitOf (now (value .entry)) told) ⌝ }
 {
     let state = *sent;
     has_unacked(state, value)
@@ -531,7 +562,8 @@ pub extern "C" fn ribsaddle_sent_has_unacked(sent: &Tracker, value: &mut u64) ->
 // 1 where a packet is lost, else 0.
 #[no_mangle]
 pub extern "C" fn ribsaddle_sent_has_lost(sent: &Tracker, value: &mut u64) -> u32
-    ensures { λ r. ⌜ (r ≡ numberOf (readOf (wholeOf (now (sent .entry))) hasLostIn)) × (now (value .exit) ≡ partOr bitOf (now (value .entry)) (readOf (wholeOf (now (sent .entry))) hasLostIn)) ⌝ }
+    ensures { λ r. let s = wholeOf (now (sent .entry)) in let told = readOf s hasLostIn in
+        ⌜ (r ≡ numberOf told) × (now (value .exit) ≡ partOr bitOf (now (value .entry)) told) ⌝ }
 {
     let state = *sent;
     has_lost(state, value)
@@ -540,8 +572,10 @@ pub extern "C" fn ribsaddle_sent_has_lost(sent: &Tracker, value: &mut u64) -> u3
 // The numbers from the initial one to the last sent.
 #[no_mangle]
 pub extern "C" fn ribsaddle_sent_range(sent: &Tracker, start: &mut u64, end: &mut u64) -> u32
-    ensures { λ r. ⌜ (r ≡ numberOf (readOf (wholeOf (now (sent .entry))) seqNumRangeIn)) × (now (start .exit) ≡ partOr startOf (now (start .entry)) (readOf (wholeOf (now (sent .entry))) seqNumRangeIn))
-        × (now (end .exit) ≡ partOr endOf (now (end .entry)) (readOf (wholeOf (now (sent .entry))) seqNumRangeIn)) ⌝ }
+    ensures { λ r. let s = wholeOf (now (sent .entry)) in let told = readOf s seqNumRangeIn in
+        ⌜ (r ≡ numberOf told)
+        × (now (start .exit) ≡ partOr startOf (now (start .entry)) told)
+        × (now (end .exit) ≡ partOr endOf (now (end .entry)) told) ⌝ }
 {
     let state = *sent;
     range(state, start, end)
@@ -556,9 +590,11 @@ pub extern "C" fn ribsaddle_sent_lost_at(
     packet_type: &mut u64,
     tag: &mut u64,
 ) -> u32
-    ensures { λ r. ⌜ (r ≡ numberOf (lostAnswer (wholeOf (now (sent .entry))) position)) × (now (number .exit) ≡ partOr lostNumberOf (now (number .entry)) (lostAnswer (wholeOf (now (sent .entry))) position))
-        × (now («packet_type» .exit) ≡ partOr lostTypeOf (now («packet_type» .entry)) (lostAnswer (wholeOf (now (sent .entry))) position))
-        × (now (tag .exit) ≡ partOr lostTagOf (now (tag .entry)) (lostAnswer (wholeOf (now (sent .entry))) position)) ⌝ }
+    ensures { λ r. let s = wholeOf (now (sent .entry)) in let told = lostAnswer s position in
+        ⌜ (r ≡ numberOf told)
+        × (now (number .exit) ≡ partOr lostNumberOf (now (number .entry)) told)
+        × (now («packet_type» .exit) ≡ partOr lostTypeOf (now («packet_type» .entry)) told)
+        × (now (tag .exit) ≡ partOr lostTagOf (now (tag .entry)) told) ⌝ }
 {
     let state = *sent;
     lost_at(state, position, number, packet_type, tag)

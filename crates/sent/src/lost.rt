@@ -9,7 +9,8 @@ use outgoing::answer::TruthTold;
 use outgoing::kept::Packet;
 use outgoing::lost::type_of;
 use outgoing::lost::wrap_place;
-use packet::seq::SeqNum;
+use outgoing::told::any_told;
+use wire::seq::SeqNum;
 ghost use mathlib.Core.Path.{_≡_};
 ghost use Prim.Native.Nat.{_≤_, _<_, _-_, _+_};
 ghost use lib.Seq.{slice};
@@ -82,11 +83,7 @@ impl SentPackets {
     pub fn has_lost_packets(self) -> TruthTold
         ensures { λ r. ⌜ truthTold r ≡ readOf self hasLostIn ⌝ }
     {
-        if !self.sound() {
-            return TruthTold::Refused(Reason::NotSound);
-        }
-        let packets = self.packets;
-        TruthTold::Truth(0 < lost_between(packets, 0, self.live as usize))
+        any_told(self.lost_count())
     }
 
     // The lost packet at a position of the list, from 0. Refused with 19, and with 12 at or past the

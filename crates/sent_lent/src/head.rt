@@ -17,10 +17,16 @@ use outgoing::answer::TruthTold;
 use outgoing::kept::Packet;
 use outgoing::lost::type_of;
 use outgoing::lost::wrap_place;
+use outgoing::told::any_told;
+use outgoing::told::last_acked;
+use outgoing::told::number_told;
+use outgoing::told::range_told;
+use outgoing::told::seq_told;
+use outgoing::told::truth_told;
 use outgoing::transmit::transmit_check;
-use packet::header::PacketType;
-use packet::seq::CircularRangeInclusive;
-use packet::seq::SeqNum;
+use wire::kind::PacketType;
+use wire::seq::CircularRangeInclusive;
+use wire::seq::SeqNum;
 ghost use mathlib.Core.Path.{_≡_};
 ghost use mathlib.Core.Bool.{true};
 ghost use Prim.Native.Nat.{_≤_, _<_, _-_, _+_};
@@ -64,7 +70,7 @@ impl Head {
         marks: &[u8; 2048],
     ) -> bool
         requires { ⌜ (length (now samples) ≡ 2048) × (Places (now times) (now sizes) (now marks)) ⌝ }
-        ensures { λ r. ⌜ r ≡ stateSoundOf (wholeIn self (now (samples .entry)) (now (times .entry)) (now (sizes .entry)) (now (marks .entry))) ⌝ }
+        ensures { λ r. let s = wholeIn self (now (samples .entry)) (now (times .entry)) (now (sizes .entry)) (now (marks .entry)) in ⌜ r ≡ stateSoundOf s ⌝ }
     {
         if Packet::PLACES < self.live {
             return false;
@@ -92,7 +98,8 @@ impl Head {
         clock: u64,
     ) -> Head
         requires { ⌜ (stateSoundOf (wholeIn self (now samples) (now times) (now sizes) (now marks)) ≡ true) × (offset ≤ self .count) × (Places (now times) (now sizes) (now marks)) ⌝ }
-        ensures { λ r. ⌜ wholeIn r (now (samples .entry)) (now (times .exit)) (now (sizes .exit)) (now (marks .exit)) ≡ writtenOf (wholeIn self (now (samples .entry)) (now (times .entry)) (now (sizes .entry)) (now (marks .entry))) (clockedOf (resentOf (trackerOf (wholeIn self (now (samples .entry)) (now (times .entry)) (now (sizes .entry)) (now (marks .entry)))) offset) clock) ⌝ }
+        ensures { λ r. let s = wholeIn self (now (samples .entry)) (now (times .entry)) (now (sizes .entry)) (now (marks .entry)) in
+            ⌜ wholeIn r (now (samples .entry)) (now (times .exit)) (now (sizes .exit)) (now (marks .exit)) ≡ writtenOf s (clockedOf (resentOf (trackerOf s) offset) clock) ⌝ }
     {
         let numbers = self.numbers;
         let gone = self.count - self.live;
@@ -118,7 +125,8 @@ impl Head {
         clock: u64,
     ) -> Head
         requires { ⌜ (stateSoundOf (wholeIn self (now samples) (now times) (now sizes) (now marks)) ≡ true) × (self .live < 512) × (Places (now times) (now sizes) (now marks)) ⌝ }
-        ensures { λ r. ⌜ wholeIn r (now (samples .entry)) (now (times .exit)) (now (sizes .exit)) (now (marks .exit)) ≡ writtenOf (wholeIn self (now (samples .entry)) (now (times .entry)) (now (sizes .entry)) (now (marks .entry))) (clockedOf (recordedOf (trackerOf (wholeIn self (now (samples .entry)) (now (times .entry)) (now (sizes .entry)) (now (marks .entry)))) packet) clock) ⌝ }
+        ensures { λ r. let s = wholeIn self (now (samples .entry)) (now (times .entry)) (now (sizes .entry)) (now (marks .entry)) in
+            ⌜ wholeIn r (now (samples .entry)) (now (times .exit)) (now (sizes .exit)) (now (marks .exit)) ≡ writtenOf s (clockedOf (recordedOf (trackerOf s) packet) clock) ⌝ }
     {
         let numbers = self.numbers;
         let mut next = self;
@@ -141,7 +149,8 @@ impl Head {
         clock: u64,
     ) -> Outcome
         requires { ⌜ (length (now samples) ≡ 2048) × (Places (now times) (now sizes) (now marks)) ⌝ }
-        ensures { λ r. ⌜ outcome r ≡ whenStateSound (wholeIn self (now (samples .entry)) (now (times .entry)) (now (sizes .entry)) (now (marks .entry))) (transmitCheck (self .numbers) (self .count) (self .live) offset len clock) ⌝ }
+        ensures { λ r. let s = wholeIn self (now (samples .entry)) (now (times .entry)) (now (sizes .entry)) (now (marks .entry)) in
+            ⌜ outcome r ≡ whenStateSound s (transmitCheck (self .numbers) (self .count) (self .live) offset len clock) ⌝ }
     {
         if !self.is_sound(samples, times, sizes, marks) {
             return Outcome::Refused(Reason::NotSound);
@@ -164,7 +173,8 @@ impl Head {
         clock: u64,
     ) -> Stepped
         requires { ⌜ (length (now samples) ≡ 2048) × (Places (now times) (now sizes) (now marks)) ⌝ }
-        ensures { λ r. ⌜ (outcome (r .answer), wholeIn (r .head) (now (samples .entry)) (now (times .exit)) (now (sizes .exit)) (now (marks .exit))) ≡ transmitAnswer (wholeIn self (now (samples .entry)) (now (times .entry)) (now (sizes .entry)) (now (marks .entry))) number «packet_type» tag len clock ⌝ }
+        ensures { λ r. let s = wholeIn self (now (samples .entry)) (now (times .entry)) (now (sizes .entry)) (now (marks .entry)) in
+            ⌜ (outcome (r .answer), wholeIn (r .head) (now (samples .entry)) (now (times .exit)) (now (sizes .exit)) (now (marks .exit))) ≡ transmitAnswer s number «packet_type» tag len clock ⌝ }
     {
         let offset = number.offset_from(SeqNum(self.initial)).0 as u32;
         let check = self.may_transmit(samples, times, sizes, marks, offset, len, clock);
@@ -209,7 +219,8 @@ impl Head {
         clock: u64,
     ) -> Head
         requires { ⌜ (stateSoundOf (wholeIn self (now samples) (now times) (now sizes) (now marks)) ≡ true) × (1 ≤ offset) × (offset ≤ self .count) × (length (now sack) ≤ 252) × (length (now samples) ≡ 2048) × (Places (now times) (now sizes) (now marks)) ⌝ }
-        ensures { λ r. ⌜ wholeIn r (now (samples .exit)) (now (times .exit)) (now (sizes .exit)) (now (marks .exit)) ≡ ackStateOf (wholeIn self (now (samples .entry)) (now (times .entry)) (now (sizes .entry)) (now (marks .entry))) offset (now (sack .entry)) delay clock ⌝ }
+        ensures { λ r. let s = wholeIn self (now (samples .entry)) (now (times .entry)) (now (sizes .entry)) (now (marks .entry)) in
+            ⌜ wholeIn r (now (samples .exit)) (now (times .exit)) (now (sizes .exit)) (now (marks .exit)) ≡ ackStateOf s offset (now (sack .entry)) delay clock ⌝ }
     {
         let numbers = self.numbers;
         let live = self.live;
@@ -250,7 +261,8 @@ impl Head {
         clock: u64,
     ) -> Stepped
         requires { ⌜ (length (now samples) ≡ 2048) × (Places (now times) (now sizes) (now marks)) ⌝ }
-        ensures { λ r. ⌜ (outcome (r .answer), wholeIn (r .head) (now (samples .exit)) (now (times .exit)) (now (sizes .exit)) (now (marks .exit))) ≡ ackAnswer (wholeIn self (now (samples .entry)) (now (times .entry)) (now (sizes .entry)) (now (marks .entry))) number (now (sack .entry)) delay clock ⌝ }
+        ensures { λ r. let s = wholeIn self (now (samples .entry)) (now (times .entry)) (now (sizes .entry)) (now (marks .entry)) in
+            ⌜ (outcome (r .answer), wholeIn (r .head) (now (samples .exit)) (now (times .exit)) (now (sizes .exit)) (now (marks .exit))) ≡ ackAnswer s number (now (sack .entry)) delay clock ⌝ }
     {
         if !self.is_sound(samples, times, sizes, marks) {
             return Stepped {
@@ -305,7 +317,7 @@ impl Head {
         sizes: &[u32; 1024],
         marks: &[u8; 2048],
     ) -> bool
-        ensures { λ r. ⌜ r ≡ stateSoundOf (wholeIn self (now (samples .entry)) (now (times .entry)) (now (sizes .entry)) (now (marks .entry))) ⌝ }
+        ensures { λ r. let s = wholeIn self (now (samples .entry)) (now (times .entry)) (now (sizes .entry)) (now (marks .entry)) in ⌜ r ≡ stateSoundOf s ⌝ }
     {
         tell_places(*samples, *times, *sizes, *marks);
         self.is_sound(samples, times, sizes, marks)
@@ -325,8 +337,12 @@ impl Head {
         len: u32,
         clock: u64,
     ) -> Stepped
-        ensures { λ r. ⌜ (stepped r ≡ headed (transmitAnswer (wholeIn self (now (samples .entry)) (now (times .entry)) (now (sizes .entry)) (now (marks .entry))) number «packet_type» tag len clock)) × (now (times .exit) ≡ timesOf (transmitAnswer (wholeIn self (now (samples .entry)) (now (times .entry)) (now (sizes .entry)) (now (marks .entry))) number «packet_type» tag len clock .1 .packets))
-            × (now (sizes .exit) ≡ sizesOf (transmitAnswer (wholeIn self (now (samples .entry)) (now (times .entry)) (now (sizes .entry)) (now (marks .entry))) number «packet_type» tag len clock .1 .packets)) × (now (marks .exit) ≡ marksOf (transmitAnswer (wholeIn self (now (samples .entry)) (now (times .entry)) (now (sizes .entry)) (now (marks .entry))) number «packet_type» tag len clock .1 .packets)) ⌝ }
+        ensures { λ r. let s = wholeIn self (now (samples .entry)) (now (times .entry)) (now (sizes .entry)) (now (marks .entry)) in
+            let a = transmitAnswer s number «packet_type» tag len clock in
+            ⌜ (stepped r ≡ headed a)
+            × (now (times .exit) ≡ timesOf (a .1 .packets))
+            × (now (sizes .exit) ≡ sizesOf (a .1 .packets))
+            × (now (marks .exit) ≡ marksOf (a .1 .packets)) ⌝ }
     {
         tell_places(*samples, *times, *sizes, *marks);
         let next = self.transmit(
@@ -356,8 +372,13 @@ impl Head {
         delay: u64,
         clock: u64,
     ) -> Stepped
-        ensures { λ r. ⌜ (stepped r ≡ headed (ackAnswer (wholeIn self (now (samples .entry)) (now (times .entry)) (now (sizes .entry)) (now (marks .entry))) number (now (sack .entry)) delay clock)) × (now (samples .exit) ≡ pairsOf (ackAnswer (wholeIn self (now (samples .entry)) (now (times .entry)) (now (sizes .entry)) (now (marks .entry))) number (now (sack .entry)) delay clock .1 .delays .kept)) × (now (times .exit) ≡ timesOf (ackAnswer (wholeIn self (now (samples .entry)) (now (times .entry)) (now (sizes .entry)) (now (marks .entry))) number (now (sack .entry)) delay clock .1 .packets))
-            × (now (sizes .exit) ≡ sizesOf (ackAnswer (wholeIn self (now (samples .entry)) (now (times .entry)) (now (sizes .entry)) (now (marks .entry))) number (now (sack .entry)) delay clock .1 .packets)) × (now (marks .exit) ≡ marksOf (ackAnswer (wholeIn self (now (samples .entry)) (now (times .entry)) (now (sizes .entry)) (now (marks .entry))) number (now (sack .entry)) delay clock .1 .packets)) ⌝ }
+        ensures { λ r. let s = wholeIn self (now (samples .entry)) (now (times .entry)) (now (sizes .entry)) (now (marks .entry)) in
+            let a = ackAnswer s number (now (sack .entry)) delay clock in
+            ⌜ (stepped r ≡ headed a)
+            × (now (samples .exit) ≡ pairsOf (a .1 .delays .kept))
+            × (now (times .exit) ≡ timesOf (a .1 .packets))
+            × (now (sizes .exit) ≡ sizesOf (a .1 .packets))
+            × (now (marks .exit) ≡ marksOf (a .1 .packets)) ⌝ }
     {
         tell_places(*samples, *times, *sizes, *marks);
         let next = self.ack(samples, times, sizes, marks, number, sack, delay, clock);
@@ -373,7 +394,8 @@ impl Head {
         sizes: &[u32; 1024],
         marks: &[u8; 2048],
     ) -> Stepped
-        ensures { λ r. ⌜ stepped r ≡ headed (timeoutAnswer (wholeIn self (now (samples .entry)) (now (times .entry)) (now (sizes .entry)) (now (marks .entry)))) ⌝ }
+        ensures { λ r. let s = wholeIn self (now (samples .entry)) (now (times .entry)) (now (sizes .entry)) (now (marks .entry)) in
+            ⌜ stepped r ≡ headed (timeoutAnswer s) ⌝ }
     {
         tell_places(*samples, *times, *sizes, *marks);
         if !self.is_sound(samples, times, sizes, marks) {
@@ -399,12 +421,11 @@ impl Head {
         sizes: &[u32; 1024],
         marks: &[u8; 2048],
     ) -> NumberTold
-        ensures { λ r. ⌜ numberTold r ≡ readOf (wholeIn self (now (samples .entry)) (now (times .entry)) (now (sizes .entry)) (now (marks .entry))) timeoutIn ⌝ }
+        ensures { λ r. let s = wholeIn self (now (samples .entry)) (now (times .entry)) (now (sizes .entry)) (now (marks .entry)) in
+            ⌜ numberTold r ≡ readOf s timeoutIn ⌝ }
     {
-        if !self.sound(samples, times, sizes, marks) {
-            return NumberTold::Refused(Reason::NotSound);
-        }
-        NumberTold::Number(self.numbers.timeout)
+        let sound = self.sound(samples, times, sizes, marks);
+        number_told(sound, self.numbers.timeout)
     }
 
     // How many bytes may be sent now. Refused with 19.
@@ -415,13 +436,12 @@ impl Head {
         sizes: &[u32; 1024],
         marks: &[u8; 2048],
     ) -> NumberTold
-        ensures { λ r. ⌜ numberTold r ≡ readOf (wholeIn self (now (samples .entry)) (now (times .entry)) (now (sizes .entry)) (now (marks .entry))) windowIn ⌝ }
+        ensures { λ r. let s = wholeIn self (now (samples .entry)) (now (times .entry)) (now (sizes .entry)) (now (marks .entry)) in
+            ⌜ numberTold r ≡ readOf s windowIn ⌝ }
     {
-        if !self.sound(samples, times, sizes, marks) {
-            return NumberTold::Refused(Reason::NotSound);
-        }
+        let sound = self.sound(samples, times, sizes, marks);
         let numbers = self.numbers;
-        NumberTold::Number(numbers.free_window() as u64)
+        number_told(sound, numbers.free_window() as u64)
     }
 
     // The bytes in flight. Refused with 19.
@@ -432,12 +452,11 @@ impl Head {
         sizes: &[u32; 1024],
         marks: &[u8; 2048],
     ) -> NumberTold
-        ensures { λ r. ⌜ numberTold r ≡ readOf (wholeIn self (now (samples .entry)) (now (times .entry)) (now (sizes .entry)) (now (marks .entry))) inFlightIn ⌝ }
+        ensures { λ r. let s = wholeIn self (now (samples .entry)) (now (times .entry)) (now (sizes .entry)) (now (marks .entry)) in
+            ⌜ numberTold r ≡ readOf s inFlightIn ⌝ }
     {
-        if !self.sound(samples, times, sizes, marks) {
-            return NumberTold::Refused(Reason::NotSound);
-        }
-        NumberTold::Number(self.numbers.in_flight as u64)
+        let sound = self.sound(samples, times, sizes, marks);
+        number_told(sound, self.numbers.in_flight as u64)
     }
 
     // The maximum of the window. Refused with 19.
@@ -448,12 +467,11 @@ impl Head {
         sizes: &[u32; 1024],
         marks: &[u8; 2048],
     ) -> NumberTold
-        ensures { λ r. ⌜ numberTold r ≡ readOf (wholeIn self (now (samples .entry)) (now (times .entry)) (now (sizes .entry)) (now (marks .entry))) maximumIn ⌝ }
+        ensures { λ r. let s = wholeIn self (now (samples .entry)) (now (times .entry)) (now (sizes .entry)) (now (marks .entry)) in
+            ⌜ numberTold r ≡ readOf s maximumIn ⌝ }
     {
-        if !self.sound(samples, times, sizes, marks) {
-            return NumberTold::Refused(Reason::NotSound);
-        }
-        NumberTold::Number(self.numbers.maximum as u64)
+        let sound = self.sound(samples, times, sizes, marks);
+        number_told(sound, self.numbers.maximum as u64)
     }
 
     // The last number of the acknowledged run, or 0 if none. Refused with 19.
@@ -464,17 +482,13 @@ impl Head {
         sizes: &[u32; 1024],
         marks: &[u8; 2048],
     ) -> SeqTold
-        ensures { λ r. ⌜ seqTold r ≡ readOf (wholeIn self (now (samples .entry)) (now (times .entry)) (now (sizes .entry)) (now (marks .entry))) ackNumIn ⌝ }
+        ensures { λ r. let s = wholeIn self (now (samples .entry)) (now (times .entry)) (now (sizes .entry)) (now (marks .entry)) in
+            ⌜ seqTold r ≡ readOf s ackNumIn ⌝ }
     {
         tell_places(*samples, *times, *sizes, *marks);
-        if !self.is_sound(samples, times, sizes, marks) {
-            return SeqTold::Refused(Reason::NotSound);
-        }
-        let gone = self.count - self.live;
-        if gone == 0 {
-            return SeqTold::Seq(SeqNum(0));
-        }
-        SeqTold::Seq(SeqNum(self.initial).plus(gone as u16))
+        let sound = self.is_sound(samples, times, sizes, marks);
+        let number = last_acked(SeqNum(self.initial), self.count, self.live);
+        seq_told(sound, number)
     }
 
     // The number of the next packet. Refused with 19.
@@ -485,12 +499,12 @@ impl Head {
         sizes: &[u32; 1024],
         marks: &[u8; 2048],
     ) -> SeqTold
-        ensures { λ r. ⌜ seqTold r ≡ readOf (wholeIn self (now (samples .entry)) (now (times .entry)) (now (sizes .entry)) (now (marks .entry))) nextSeqNumIn ⌝ }
+        ensures { λ r. let s = wholeIn self (now (samples .entry)) (now (times .entry)) (now (sizes .entry)) (now (marks .entry)) in
+            ⌜ seqTold r ≡ readOf s nextSeqNumIn ⌝ }
     {
-        if !self.sound(samples, times, sizes, marks) {
-            return SeqTold::Refused(Reason::NotSound);
-        }
-        SeqTold::Seq(SeqNum(self.initial).plus((self.count + 1) as u16))
+        let sound = self.sound(samples, times, sizes, marks);
+        let number = SeqNum(self.initial).at(self.count).plus(1);
+        seq_told(sound, number)
     }
 
     // The numbers from the initial one to the last sent. Refused with 19.
@@ -501,17 +515,13 @@ impl Head {
         sizes: &[u32; 1024],
         marks: &[u8; 2048],
     ) -> RangeTold
-        ensures { λ r. ⌜ rangeTold r ≡ readOf (wholeIn self (now (samples .entry)) (now (times .entry)) (now (sizes .entry)) (now (marks .entry))) seqNumRangeIn ⌝ }
+        ensures { λ r. let s = wholeIn self (now (samples .entry)) (now (times .entry)) (now (sizes .entry)) (now (marks .entry)) in
+            ⌜ rangeTold r ≡ readOf s seqNumRangeIn ⌝ }
     {
-        if !self.sound(samples, times, sizes, marks) {
-            return RangeTold::Refused(Reason::NotSound);
-        }
+        let sound = self.sound(samples, times, sizes, marks);
         let start = SeqNum(self.initial);
-        RangeTold::Range(CircularRangeInclusive {
-            start,
-            end: start.plus(self.count as u16),
-            exhausted: false,
-        })
+        let range = CircularRangeInclusive::new(start, start.at(self.count));
+        range_told(sound, range)
     }
 
     // Is a packet not acknowledged? Refused with 19.
@@ -522,13 +532,12 @@ impl Head {
         sizes: &[u32; 1024],
         marks: &[u8; 2048],
     ) -> TruthTold
-        ensures { λ r. ⌜ truthTold r ≡ readOf (wholeIn self (now (samples .entry)) (now (times .entry)) (now (sizes .entry)) (now (marks .entry))) hasUnackedIn ⌝ }
+        ensures { λ r. let s = wholeIn self (now (samples .entry)) (now (times .entry)) (now (sizes .entry)) (now (marks .entry)) in
+            ⌜ truthTold r ≡ readOf s hasUnackedIn ⌝ }
     {
         tell_places(*samples, *times, *sizes, *marks);
-        if !self.is_sound(samples, times, sizes, marks) {
-            return TruthTold::Refused(Reason::NotSound);
-        }
-        TruthTold::Truth(self.live != 0)
+        let sound = self.is_sound(samples, times, sizes, marks);
+        truth_told(sound, self.live != 0)
     }
 
     // How many packets are lost. Refused with 19.
@@ -539,7 +548,8 @@ impl Head {
         sizes: &[u32; 1024],
         marks: &[u8; 2048],
     ) -> NumberTold
-        ensures { λ r. ⌜ numberTold r ≡ readOf (wholeIn self (now (samples .entry)) (now (times .entry)) (now (sizes .entry)) (now (marks .entry))) lostCountIn ⌝ }
+        ensures { λ r. let s = wholeIn self (now (samples .entry)) (now (times .entry)) (now (sizes .entry)) (now (marks .entry)) in
+            ⌜ numberTold r ≡ readOf s lostCountIn ⌝ }
     {
         tell_places(*samples, *times, *sizes, *marks);
         if !self.is_sound(samples, times, sizes, marks) {
@@ -557,14 +567,10 @@ impl Head {
         sizes: &[u32; 1024],
         marks: &[u8; 2048],
     ) -> TruthTold
-        ensures { λ r. ⌜ truthTold r ≡ readOf (wholeIn self (now (samples .entry)) (now (times .entry)) (now (sizes .entry)) (now (marks .entry))) hasLostIn ⌝ }
+        ensures { λ r. let s = wholeIn self (now (samples .entry)) (now (times .entry)) (now (sizes .entry)) (now (marks .entry)) in
+            ⌜ truthTold r ≡ readOf s hasLostIn ⌝ }
     {
-        tell_places(*samples, *times, *sizes, *marks);
-        if !self.is_sound(samples, times, sizes, marks) {
-            return TruthTold::Refused(Reason::NotSound);
-        }
-        let live = self.live as usize;
-        TruthTold::Truth(0 < places::lost_between(times, sizes, marks, 0, live))
+        any_told(self.lost_count(samples, times, sizes, marks))
     }
 
     // The lost packet at a position of the list, from 0. Refused with 19, and with 12 at or past the
@@ -577,7 +583,8 @@ impl Head {
         marks: &[u8; 2048],
         position: u32,
     ) -> LostTold
-        ensures { λ r. ⌜ lostTold r ≡ whenStateSound (wholeIn self (now (samples .entry)) (now (times .entry)) (now (sizes .entry)) (now (marks .entry))) (lostAtOf (trackerOf (wholeIn self (now (samples .entry)) (now (times .entry)) (now (sizes .entry)) (now (marks .entry)))) position) ⌝ }
+        ensures { λ r. let s = wholeIn self (now (samples .entry)) (now (times .entry)) (now (sizes .entry)) (now (marks .entry)) in
+            ⌜ lostTold r ≡ whenStateSound s (lostAtOf (trackerOf s) position) ⌝ }
     {
         tell_places(*samples, *times, *sizes, *marks);
         if !self.is_sound(samples, times, sizes, marks) {

@@ -4,7 +4,7 @@ use congestion::numbers::Numbers;
 use outgoing::ack::Ack;
 use outgoing::ack::Run;
 use outgoing::kept::Packet;
-use packet::sack;
+use wire::sack;
 ghost use mathlib.Core.Path.{_≡_};
 ghost use mathlib.Core.List.{_++_};
 ghost use Prim.Native.Nat.{_≤_, _<_, _-_, _+_};
@@ -48,7 +48,8 @@ pub(crate) fn put_packet(
     packet: Packet,
 )
     requires { ⌜ (Places (now times) (now sizes) (now marks)) × (i < 512) ⌝ }
-    ensures { λ _. ⌜ (packetsIn (now (times .exit)) (now (sizes .exit)) (now (marks .exit)) ≡ set (packetsIn (now (times .entry)) (now (sizes .entry)) (now (marks .entry))) i packet) × (Places (now (times .exit)) (now (sizes .exit)) (now (marks .exit))) ⌝ }
+    ensures { λ _. ⌜ (packetsIn (now (times .exit)) (now (sizes .exit)) (now (marks .exit)) ≡ set (packetsIn (now (times .entry)) (now (sizes .entry)) (now (marks .entry))) i packet)
+        × (Places (now (times .exit)) (now (sizes .exit)) (now (marks .exit))) ⌝ }
 {
     times[i] = packet.sent_at;
     sizes[2 * i] = packet.tag;
@@ -75,7 +76,8 @@ pub(crate) fn walked(
     last: u64,
 ) -> Walk
     requires { ⌜ (Places (now times) (now sizes) (now marks)) × (live ≤ 512) ⌝ }
-    ensures { λ r. ⌜ (r .fine ≡ packetsSoundOf last (take live (packetsIn (now (times .entry)) (now (sizes .entry)) (now (marks .entry))))) × (r .«in_flight» ≡ inFlightOf (take live (packetsIn (now (times .entry)) (now (sizes .entry)) (now (marks .entry))))) ⌝ }
+    ensures { λ r. let packets = packetsIn (now (times .entry)) (now (sizes .entry)) (now (marks .entry)) in
+        ⌜ (r .fine ≡ packetsSoundOf last (take live packets)) × (r .«in_flight» ≡ inFlightOf (take live packets)) ⌝ }
 {
     let mut i = live as usize;
     let mut fine = true;
@@ -111,7 +113,9 @@ fn hear_runs(
     then: Run,
 ) -> Marked
     requires { ⌜ (ack .count ≤ ack .gone + 512) × (run .count + then .count ≤ 65536) × (Places (now times) (now sizes) (now marks)) ⌝ }
-    ensures { λ r. ⌜ (heardIn r (now (times .exit)) (now (sizes .exit)) (now (marks .exit)) ≡ allHeardOf ack (unheardOf (packetsIn (now (times .entry)) (now (sizes .entry)) (now (marks .entry))) numbers) (runOf (heardAt ack (now (sack .entry)) bits) run ++ runOf (heardAt ack (now (sack .entry)) bits) then)) × (Places (now (times .exit)) (now (sizes .exit)) (now (marks .exit))) ⌝ }
+    ensures { λ r. let step = heardAt ack (now (sack .entry)) bits in
+        ⌜ (heardIn r (now (times .exit)) (now (sizes .exit)) (now (marks .exit)) ≡ allHeardOf ack (unheardOf (packetsIn (now (times .entry)) (now (sizes .entry)) (now (marks .entry))) numbers) (runOf step run ++ runOf step then))
+        × (Places (now (times .exit)) (now (sizes .exit)) (now (marks .exit))) ⌝ }
 {
     let steps = run.count + then.count;
     let mut heard = Marked { numbers, news: 0 };
@@ -145,7 +149,8 @@ pub(crate) fn hear(
     sack: &[u8],
 ) -> Marked
     requires { ⌜ (ack .gone ≤ ack .count) × (ack .count ≤ ack .gone + 512) × (ack .count ≤ 60000) × (1 ≤ ack .offset) × (ack .offset ≤ ack .count) × (length (now sack) ≤ 252) × (Places (now times) (now sizes) (now marks)) ⌝ }
-    ensures { λ r. ⌜ (heardIn r (now (times .exit)) (now (sizes .exit)) (now (marks .exit)) ≡ allHeardOf ack (unheardOf (packetsIn (now (times .entry)) (now (sizes .entry)) (now (marks .entry))) numbers) (heardOf (ack .count) (ack .offset) (now (sack .entry)))) × (Places (now (times .exit)) (now (sizes .exit)) (now (marks .exit))) ⌝ }
+    ensures { λ r. ⌜ (heardIn r (now (times .exit)) (now (sizes .exit)) (now (marks .exit)) ≡ allHeardOf ack (unheardOf (packetsIn (now (times .entry)) (now (sizes .entry)) (now (marks .entry))) numbers) (heardOf (ack .count) (ack .offset) (now (sack .entry))))
+        × (Places (now (times .exit)) (now (sizes .exit)) (now (marks .exit))) ⌝ }
 {
     let bits = sack::bit_count(sack) as u32;
     let named = Run {
@@ -179,7 +184,8 @@ pub(crate) fn lose(
     live: u32,
 ) -> Marked
     requires { ⌜ (Places (now times) (now sizes) (now marks)) × (live ≤ 512) ⌝ }
-    ensures { λ r. ⌜ (heardIn r (now (times .exit)) (now (sizes .exit)) (now (marks .exit)) ≡ lossHeardOf (heardIn heard (now (times .entry)) (now (sizes .entry)) (now (marks .entry))) live) × (Places (now (times .exit)) (now (sizes .exit)) (now (marks .exit))) ⌝ }
+    ensures { λ r. ⌜ (heardIn r (now (times .exit)) (now (sizes .exit)) (now (marks .exit)) ≡ lossHeardOf (heardIn heard (now (times .entry)) (now (sizes .entry)) (now (marks .entry))) live)
+        × (Places (now (times .exit)) (now (sizes .exit)) (now (marks .exit))) ⌝ }
 {
     let mut next = heard;
     let mut later: u32 = 0;
@@ -206,7 +212,8 @@ pub(crate) fn acked_run(
     live: u32,
 ) -> u32
     requires { ⌜ (Places (now times) (now sizes) (now marks)) × (live ≤ 512) ⌝ }
-    ensures { λ r. ⌜ (fromUnacked (take live (packetsIn (now (times .entry)) (now (sizes .entry)) (now (marks .entry)))) ≡ drop r (take live (packetsIn (now (times .entry)) (now (sizes .entry)) (now (marks .entry))))) × (r ≤ live) ⌝ }
+    ensures { λ r. let packets = packetsIn (now (times .entry)) (now (sizes .entry)) (now (marks .entry)) in
+        ⌜ (fromUnacked (take live packets) ≡ drop r (take live packets)) × (r ≤ live) ⌝ }
 {
     let mut run: u32 = 0;
     while run < live {
@@ -228,7 +235,8 @@ pub(crate) fn move_down(
     left: u32,
 )
     requires { ⌜ (Places (now times) (now sizes) (now marks)) × (first + left ≤ 512) ⌝ }
-    ensures { λ _. ⌜ packetsIn (now (times .exit)) (now (sizes .exit)) (now (marks .exit)) ≡ take left (drop first (packetsIn (now (times .entry)) (now (sizes .entry)) (now (marks .entry)))) ++ drop left (packetsIn (now (times .entry)) (now (sizes .entry)) (now (marks .entry))) ⌝ }
+    ensures { λ _. let packets = packetsIn (now (times .entry)) (now (sizes .entry)) (now (marks .entry)) in
+        ⌜ packetsIn (now (times .exit)) (now (sizes .exit)) (now (marks .exit)) ≡ take left (drop first packets) ++ drop left packets ⌝ }
 {
     if first == 0 {
         return;

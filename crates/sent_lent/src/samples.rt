@@ -8,7 +8,6 @@ use controller::delays::room;
 ghost use mathlib.Core.Path.{_≡_};
 ghost use mathlib.Core.List.{_++_};
 ghost use Prim.Native.Nat.{_+_, _-_, _≤_, _<_};
-ghost use lib.Dec.{leb};
 ghost use lib.ListN.{take, drop, length, getD, set};
 ghost use Rattle.controller.specs.Delays.{listOf, expiredOf, notSmallerOf, dropFront, dropBack, noSample, takenOf, baseOf, delaysSoundOf};
 ghost use Rattle.sent_lent.specs.Lent.{samplesIn, delaysIn};
@@ -63,7 +62,8 @@ pub(crate) fn sound(samples: &[u64; 2048], count: u32, last: u64) -> bool
 // How many samples at the front are expired.
 fn expired_count(samples: &[u64; 2048], count: u32, window: u64, clock: u64) -> usize
     requires { ⌜ (length (now samples) ≡ 2048) × (count ≤ 1024) ⌝ }
-    ensures { λ r. ⌜ (dropFront (expiredOf window clock) (listOf (delaysIn (now (samples .entry)) count)) ≡ drop r (listOf (delaysIn (now (samples .entry)) count))) × (r ≤ count) ⌝ }
+    ensures { λ r. let kept = listOf (delaysIn (now (samples .entry)) count) in
+        ⌜ (dropFront (expiredOf window clock) kept ≡ drop r kept) × (r ≤ count) ⌝ }
 {
     let end = count as usize;
     let mut i: usize = 0;
@@ -81,7 +81,8 @@ fn expired_count(samples: &[u64; 2048], count: u32, window: u64, clock: u64) -> 
 // not smaller than the new one.
 fn remaining_count(samples: &[u64; 2048], count: u32, first: usize, delay: u64) -> usize
     requires { ⌜ (length (now samples) ≡ 2048) × (first ≤ count) × (count ≤ 1024) ⌝ }
-    ensures { λ r. ⌜ (dropBack (notSmallerOf delay) (drop first (listOf (delaysIn (now (samples .entry)) count))) ≡ take r (drop first (listOf (delaysIn (now (samples .entry)) count)))) × (r ≤ count - first) ⌝ }
+    ensures { λ r. let kept = listOf (delaysIn (now (samples .entry)) count) in
+        ⌜ (dropBack (notSmallerOf delay) (drop first kept) ≡ take r (drop first kept)) × (r ≤ count - first) ⌝ }
 {
     let mut left = (count as usize) - first;
     while 0 < left {
@@ -117,7 +118,8 @@ pub(crate) fn base_with(
 // The `left` samples from `first` on, moved down to the front. Nothing moves where they stand there.
 fn move_down(samples: &mut [u64; 2048], first: usize, left: usize)
     requires { ⌜ (length (now samples) ≡ 2048) × (first + left ≤ 1024) ⌝ }
-    ensures { λ _. ⌜ (samplesIn (now (samples .exit)) ≡ take left (drop first (samplesIn (now (samples .entry)))) ++ drop left (samplesIn (now (samples .entry)))) × (length (now (samples .exit)) ≡ 2048) ⌝ }
+    ensures { λ _. let kept = samplesIn (now (samples .entry)) in
+        ⌜ (samplesIn (now (samples .exit)) ≡ take left (drop first kept) ++ drop left kept) × (length (now (samples .exit)) ≡ 2048) ⌝ }
 {
     if first == 0 {
         return;

@@ -7,12 +7,12 @@ use feed::Feed;
 use feed::Held;
 use feed::both;
 use outgoing::answer::LostTold;
-use packet::header::PacketType;
-use packet::header::TypeRead;
-use packet::seq::SeqNum;
 use report::text::front;
 use sent::answer::Tracked;
 use sent::state::SentPackets;
+use wire::kind::PacketType;
+use wire::kind::TypeRead;
+use wire::seq::SeqNum;
 
 // The widths of an event: kind, type, number, length or SACK byte count, now, delay.
 const WIDTHS: [u8; 6] = [1, 1, 2, 4, 8, 8];

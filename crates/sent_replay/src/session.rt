@@ -6,10 +6,10 @@ use crate::event::compare;
 use congestion::settings::Settings;
 use feed::Feed;
 use feed::both;
-use packet::seq::SeqNum;
 use report::tally::Tally;
 use sent::answer::Tracked;
 use sent::state::SentPackets;
+use wire::seq::SeqNum;
 
 // The widths of the eight settings, the answer and the count of events.
 const WIDTHS: [u8; 10] = [8, 8, 8, 8, 8, 8, 8, 8, 1, 4];

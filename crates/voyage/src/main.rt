@@ -2,6 +2,7 @@
 // datagrams. First a run of fixed steps, printed step by step; then 240 seeded runs, a line each; then
 // a line of totals, which says of how many runs the bytes differ. Every byte that is read is compared
 // with the one that was sent. With a seed as its argument it prints that run alone, step by step.
+mod book;
 mod channel;
 mod plan;
 mod receiver;
@@ -10,34 +11,34 @@ mod script;
 mod sender;
 mod step;
 mod words;
-mod world;
 
-use plan::Plan;
+use book::Book;
 use report::text::front;
-use run::Ended;
-use run::Totals;
+use run::add_all;
+use run::print_run;
+use run::print_totals;
 
 // The seeded runs.
 const LAST_SEED: u64 = 240;
 
 // A run, and its line.
-fn run_of(plan: Plan, name: &[u8], is_shown: bool) -> Ended {
-    let ended = run::run(plan, is_shown);
-    ended.print(name, plan.seed, plan.initial);
-    ended
+fn run_of(book: &mut Book, name: &[u8], is_shown: bool) {
+    run::run(book, is_shown);
+    print_run(book, name);
 }
 
-fn seeded(totals: Totals, seed: u64) -> Totals {
-    let ended = run_of(Plan::of_seed(seed), b"seed ", false);
-    totals.with(ended)
+// The run of a seed, in the totals.
+fn seeded(totals: &mut Book, seed: u64) {
+    let mut book = plan::of_seed(seed);
+    run_of(&mut book, b"seed # from #:", false);
+    add_all(totals, &book);
 }
 
-fn all(totals: Totals) -> Totals {
-    let mut here = totals;
+// The seeded runs, in the totals.
+fn all(totals: &mut Book) {
     for seed in 1..LAST_SEED + 1 {
-        here = seeded(here, seed);
+        seeded(totals, seed);
     }
-    here
 }
 
 // One more digit of a number of up to nine digits; what is no digit changes nothing.
@@ -66,10 +67,12 @@ fn main() {
         let mut word = io::buffer();
         let length = os::arg(1, &mut word);
         let seed = number(front(&word, length));
-        run_of(Plan::of_seed(seed), b"seed ", true);
+        let mut book = plan::of_seed(seed);
+        run_of(&mut book, b"seed # from #:", true);
         return;
     }
-    let fixed = run_of(script::plan(), b"fixed steps, seed ", true);
-    let totals = all(Totals::new().with(fixed));
-    totals.print();
+    let mut totals = script::plan();
+    run_of(&mut totals, b"fixed steps, seed # from #:", true);
+    all(&mut totals);
+    print_totals(&totals);
 }

@@ -1,26 +1,43 @@
 // What the receiver does: payloads that arrive, reads, and acks that it builds.
-use crate::plan::Plan;
+use crate::book::AT;
+use crate::book::BYTES_OUT;
+use crate::book::Book;
+use crate::book::CLOCK;
+use crate::book::DRAWN;
+use crate::book::SEED;
+use crate::book::WANT;
+use crate::book::WRONG;
+use crate::book::add;
+use crate::book::tell;
+use crate::book::tell_answer;
+use crate::book::tell_refused;
+use crate::channel::Memory;
+use crate::channel::put;
 use crate::plan::byte_of;
 use crate::plan::key;
-use crate::world::Acted;
-use crate::world::ReceiverTold;
-use crate::world::Tally;
-use crate::world::World;
-use crate::world::bump;
-use crate::world::by_receiver;
+use crate::plan::size_of;
+use crate::step::Step;
+use crate::words::BUILT;
+use crate::words::READ;
+use crate::words::UNBUILT;
+use crate::words::UNREAD;
+use crate::words::UNWRITTEN;
+use crate::words::WAITS;
+use crate::words::WROTE;
+use crate::words::WROTE_AGAIN;
 use packet::decode::Packet;
+use packet::extension::Part;
 use packet::header::Header;
-use packet::header::PacketType;
-use packet::seq::SeqNum;
 use recv::Count;
 use recv::Number;
 use recv::ReceiveBuffer;
 use recv::Refusal;
-use recv::Taken;
 use recv::Writing;
 use report::text::front;
+use wire::kind::PacketType;
+use wire::seq::SeqNum;
 
-pub fn of_refusal(refusal: Refusal) -> u64 {
+fn of_refusal(refusal: Refusal) -> u64 {
     match refusal {
         Refusal::RoomTooSmall => 9,
         Refusal::LengthOutOfRange => 10,
@@ -40,107 +57,117 @@ fn number_of(answer: Number) -> u64 {
     }
 }
 
-// What a write's answer says of a number. A stored payload waits unless the ack number moved.
-fn written_told(answer: Writing, number: u64, before: u64, after: u64) -> ReceiverTold {
+// A stored payload waits unless the ack number moved.
+fn tell_stored(book: &mut Book, number: u64, before: u64, after: u64) {
+    if before == after {
+        tell(book, WAITS, number, 0)
+    } else {
+        tell(book, WROTE, number, after)
+    }
+}
+
+// What a write's answer says of a number, with the ack number before it and after.
+fn tell_written(book: &mut Book, answer: Writing, number: u64, before: u64, after: u64) {
     match answer {
-        Writing::Stored => {
-            if before == after {
-                ReceiverTold::Waits(number)
-            } else {
-                ReceiverTold::Wrote(number, after)
-            }
-        }
-        Writing::AlreadyThere => ReceiverTold::WroteAgain(number),
-        Writing::Refused(why) => ReceiverTold::Unwritten(number, of_refusal(why)),
+        Writing::Stored => tell_stored(book, number, before, after),
+        Writing::AlreadyThere => tell(book, WROTE_AGAIN, number, 0),
+        Writing::Refused(why) => tell_refused(book, UNWRITTEN, number, of_refusal(why)),
     }
 }
 
 // A payload arrives under its number.
-fn arrive_as(world: World, buf: &mut [u8], number: SeqNum, payload: &[u8]) -> Acted {
-    let receiver = world.receiver;
+fn arrive_as(
+    receiver: ReceiveBuffer,
+    book: &mut Book,
+    buf: &mut [u8],
+    number: SeqNum,
+    payload: &[u8],
+) -> ReceiveBuffer {
     let before = number_of(receiver.ack_num());
     let written = receiver.write(buf, number, payload);
     let answer = written.answer;
     let state = written.state;
     let after = number_of(state.ack_num());
-    let told = written_told(answer, number.0 as u64, before, after);
-    by_receiver(world.with_receiver(state), told)
+    tell_written(book, answer, number.0 as u64, before, after);
+    state
 }
 
-// A packet arrives.
-pub fn arrive(world: World, buf: &mut [u8], packet: Packet, datagram: &[u8]) -> Acted {
+// A packet arrives, in a datagram that stands in this part of the memory.
+fn arrive(
+    receiver: ReceiveBuffer,
+    book: &mut Book,
+    buf: &mut [u8],
+    packet: Packet,
+    part: Part,
+    memory: &Memory,
+) -> ReceiveBuffer {
     let header = packet.header;
     let payload = packet.payload;
-    arrive_as(world, buf, header.seq_num, payload.bytes(datagram))
+    let bytes = payload.bytes(part.bytes(memory));
+    arrive_as(receiver, book, buf, header.seq_num, bytes)
+}
+
+// The offset of the payload that is read.
+fn wanted(book: &Book) -> u32 {
+    (book[WANT] % 4294967296) as u32
 }
 
 // Past a payload that has been read whole.
-fn skip(tally: Tally, plan: Plan) -> Tally {
-    if tally.at < plan.size_of(tally.want) {
-        return tally;
+fn skip(book: &mut Book) {
+    if book[AT] >= size_of(book, wanted(book)) as u64 {
+        add(book, WANT, 1);
+        book[AT] = 0;
     }
-    let mut moved = tally;
-    moved.want = std::num::wrapping_add_u32(tally.want, 1);
-    moved.at = 0;
-    moved
 }
 
 // Compares one byte that was read with the one that was sent. No two payloads in a row are empty.
-fn compare(tally: Tally, plan: Plan, byte: u8) -> Tally {
-    let mut here = skip(skip(tally, plan), plan);
-    if byte != byte_of(key(plan.seed, here.want), here.at) {
-        here.wrong = bump(here.wrong);
+fn compare(book: &mut Book, byte: u8) {
+    skip(book);
+    skip(book);
+    if byte != byte_of(key(book[SEED], wanted(book)), book[AT]) {
+        add(book, WRONG, 1);
     }
-    here.at = std::num::wrapping_add_usize(here.at, 1);
-    here.bytes_out = bump(here.bytes_out);
-    here
+    add(book, AT, 1);
+    add(book, BYTES_OUT, 1);
 }
 
 // Compares bytes that were read, in order.
-fn compare_all(tally: Tally, plan: Plan, bytes: &[u8]) -> Tally {
-    let mut here = tally;
+fn compare_all(book: &mut Book, bytes: &[u8]) {
     let mut i: usize = 0;
     while i < bytes.len() {
-        here = compare(here, plan, bytes[i]);
+        compare(book, bytes[i]);
         i += 1;
     }
-    here
-}
-
-// Compares the bytes that a read took.
-fn compared(world: World, bytes: &[u8]) -> World {
-    let mut here = world;
-    let tally = here.tally;
-    let after = compare_all(tally, here.plan, bytes);
-    here.tally = after;
-    here
 }
 
 // What a read tells, which took the front of these bytes.
-fn read_told(world: World, taken: Taken, out: &[u8]) -> Acted {
-    let answer = taken.answer;
-    let state = taken.state;
-    let here = world.with_receiver(state);
+fn tell_read(book: &mut Book, answer: Count, out: &[u8]) {
     match answer {
-        Count::Is(n) => by_receiver(compared(here, front(out, n)), ReceiverTold::Read(n as u64)),
-        Count::Refused(why) => by_receiver(here, ReceiverTold::Unread(of_refusal(why))),
+        Count::Is(n) => {
+            compare_all(book, front(out, n));
+            tell(book, READ, n as u64, 0)
+        }
+        Count::Refused(why) => tell_answer(book, UNREAD, of_refusal(why)),
     }
 }
 
-fn read_into(world: World, buf: &mut [u8], out: &mut [u8]) -> Acted {
-    let receiver = world.receiver;
+fn read_into(
+    receiver: ReceiveBuffer,
+    book: &mut Book,
+    buf: &mut [u8],
+    out: &mut [u8],
+) -> ReceiveBuffer {
     let taken = receiver.read(buf, out);
-    read_told(world, taken, out)
+    let answer = taken.answer;
+    tell_read(book, answer, out);
+    taken.state
 }
 
 // Up to so many bytes are read, and each is compared.
-pub fn read(world: World, buf: &mut [u8], most: usize) -> Acted {
+fn read(receiver: ReceiveBuffer, book: &mut Book, buf: &mut [u8], most: u64) -> ReceiveBuffer {
     let mut out = io::buffer();
-    if most <= 4096 {
-        read_into(world, buf, &mut out[..most])
-    } else {
-        read_into(world, buf, &mut out)
-    }
+    let count = (most % 4096) as usize;
+    read_into(receiver, book, buf, &mut out[..count])
 }
 
 // The free room that an ack's header tells, or 0.
@@ -151,56 +178,62 @@ fn window_of(receiver: ReceiveBuffer) -> u32 {
     }
 }
 
-// The delay that an ack's header tells.
-fn delay_of(world: World) -> u32 {
-    let tally = world.tally;
-    50000 + (tally.seed / 4096 % 250000) as u32
-}
-
-// An ack of this number, with these bytes of SACK, goes into the channel.
-fn ack_out(world: World, number: SeqNum, sack: &[u8], memory: &mut [u8]) -> World {
-    let tally = world.tally;
-    let receiver = world.receiver;
-    let header = Header {
+// The header of an ack of this number, which tells this window, and a delay that was drawn.
+fn header_of(book: &Book, number: SeqNum, window: u32) -> Header {
+    Header {
         packet_type: PacketType::State,
         conn_id: 4660,
-        ts_micros: (tally.clock % 4294967296) as u32,
-        ts_diff_micros: delay_of(world),
-        window_size: window_of(receiver),
+        ts_micros: (book[CLOCK] % 4294967296) as u32,
+        ts_diff_micros: 50000 + (book[DRAWN] / 4096 % 250000) as u32,
+        window_size: window,
         seq_num: SeqNum(0),
         ack_num: number,
-    };
-    world.with_packet(memory, header, sack, b"")
+    }
 }
 
-// An ack with these bytes of SACK, and the number at the same moment.
-fn ack_with(world: World, sack: &[u8], memory: &mut [u8]) -> Acted {
-    let receiver = world.receiver;
+// An ack with these bytes of SACK goes into the channel, with the number and the free room of the same
+// moment.
+fn ack_with(receiver: ReceiveBuffer, book: &mut Book, sack: &[u8], memory: &mut Memory) {
     match receiver.ack_num() {
         Number::Is(number) => {
-            let out = ack_out(world, number, sack, memory);
-            by_receiver(out, ReceiverTold::Built(number.0 as u64, sack.len() as u64))
+            let header = header_of(book, number, window_of(receiver));
+            put(book, memory, header, sack, b"");
+            tell(book, BUILT, number.0 as u64, sack.len() as u64)
         }
-        Number::Refused(why) => by_receiver(world, ReceiverTold::Unbuilt(of_refusal(why))),
+        Number::Refused(why) => tell_answer(book, UNBUILT, of_refusal(why)),
     }
 }
 
 // An ack is built in this room.
-fn build_in(world: World, room: &mut [u8], memory: &mut [u8]) -> Acted {
-    let receiver = world.receiver;
-    let count = receiver.selective_ack(room);
-    match count {
-        Count::Is(n) => ack_with(world, front(room, n), memory),
-        Count::Refused(why) => by_receiver(world, ReceiverTold::Unbuilt(of_refusal(why))),
+fn build_in(receiver: ReceiveBuffer, book: &mut Book, room: &mut [u8], memory: &mut Memory) {
+    match receiver.selective_ack(room) {
+        Count::Is(n) => ack_with(receiver, book, front(room, n), memory),
+        Count::Refused(why) => tell_answer(book, UNBUILT, of_refusal(why)),
     }
 }
 
 // An ack is built, with room for so many bytes of SACK.
-pub fn build(world: World, size: usize, memory: &mut [u8]) -> Acted {
+fn build(receiver: ReceiveBuffer, book: &mut Book, size: u64, memory: &mut Memory) {
     let mut room = io::buffer();
-    if size <= 4096 {
-        build_in(world, &mut room[..size], memory)
-    } else {
-        build_in(world, &mut room, memory)
+    let count = (size % 4096) as usize;
+    build_in(receiver, book, &mut room[..count], memory)
+}
+
+// The receiver's part of a step.
+pub(crate) fn receive(
+    receiver: ReceiveBuffer,
+    book: &mut Book,
+    step: Step,
+    buf: &mut [u8],
+    memory: &mut Memory,
+) -> ReceiveBuffer {
+    match step {
+        Step::Arrive(packet, part) => arrive(receiver, book, buf, packet, part, memory),
+        Step::Read(most) => read(receiver, book, buf, most),
+        Step::Build(size) => {
+            build(receiver, book, size, memory);
+            receiver
+        }
+        _ => receiver,
     }
 }

@@ -1,11 +1,17 @@
 // A run of fixed steps: datagrams that are lost, repeated and
 // out of order, an ack that arrives late, refused calls at each end, retransmissions.
-use crate::plan::Plan;
+use crate::book::Book;
+use crate::book::DEPTH;
+use crate::book::INITIAL;
+use crate::book::IS_FIXED;
+use crate::book::TO_SEND;
+use crate::plan::begun;
+use crate::plan::measure;
 use crate::step::Step;
 use crate::step::Way;
 
 // A number behind a step is as `Step` has it. The places of the channel are filled from 0 on.
-pub fn step_at(index: u64) -> Step {
+pub(crate) fn step_at(index: u64) -> Step {
     match index {
         0 => Step::Send(0, 0),
         1 => Step::Send(0, 0),
@@ -55,19 +61,13 @@ pub fn step_at(index: u64) -> Step {
     }
 }
 
-pub fn plan() -> Plan {
-    Plan {
-        is_fixed: true,
-        seed: 9,
-        initial: 65533,
-        packets: 6,
-        most: 999,
-        length: 1850,
-        largest: 1400,
-        depth: 64,
-        losses: 0,
-        repeats: 0,
-        patience: 0,
-        calm: 0,
-    }
+// What that run is set up with.
+pub(crate) fn plan() -> Book {
+    let mut book = begun(9);
+    measure(&mut book, 999, 1850, 1400);
+    book[IS_FIXED] = 1;
+    book[INITIAL] = 65533;
+    book[TO_SEND] = 6;
+    book[DEPTH] = 64;
+    book
 }

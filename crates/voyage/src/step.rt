@@ -1,22 +1,31 @@
-// One step of a run: what is done, and doing it.
-use crate::plan::Plan;
+// One step of a run: which it is, and the channel's part of it.
+use crate::book::Book;
+use crate::book::CALM;
+use crate::book::CLOCK;
+use crate::book::DRAWN;
+use crate::book::IS_FIXED;
+use crate::book::LOSSES;
+use crate::book::LOST;
+use crate::book::PATIENCE;
+use crate::book::REPEATED;
+use crate::book::REPEATS;
+use crate::book::add;
+use crate::book::tell;
+use crate::book::tell_answer;
+use crate::channel::Memory;
+use crate::channel::note;
+use crate::channel::part;
+use crate::channel::pick;
 use crate::plan::next;
-use crate::receiver::arrive;
-use crate::receiver::build;
-use crate::receiver::read;
 use crate::script;
-use crate::sender::hear;
-use crate::sender::send;
-use crate::world::Acted;
-use crate::world::ChannelTold;
-use crate::world::Told;
-use crate::world::World;
-use crate::world::bump;
-use crate::world::nothing;
+use crate::words::LOST_ACK;
+use crate::words::LOST_PACKET;
+use crate::words::NOTHING;
+use crate::words::UNDECODED;
 use lines::answer::of_reason;
 use packet::decode::Decoded;
 use packet::decode::Packet;
-use packet::decode::Reason;
+use packet::extension::Part;
 
 // What the channel does with a datagram: it takes it out and hands it over, by a clock that is so far
 // back; it hands it over and keeps it; it takes it out, and that is all.
@@ -28,6 +37,8 @@ pub enum Way {
 
 // What can be done. The numbers are: how far past the next packet, and how far back the clock is; a
 // place of the channel to look from; room for the SACK; bytes to read; a position of the lost list.
+// When the channel has done its part, an ack is heard, with how far back the clock is, or another packet
+// arrives, both with the part of the memory that its datagram stands in, or nothing is left to do.
 pub enum Step {
     Send(u64, u64),
     Pass(Way, u64),
@@ -35,6 +46,9 @@ pub enum Step {
     Read(u64),
     SendLost(u64),
     TimeOut,
+    Hear(Packet, Part, u64),
+    Arrive(Packet, Part),
+    Over,
 }
 
 // An ack is a State.
@@ -44,159 +58,60 @@ fn is_ack(packet: Packet) -> bool {
     kind.number() == 2
 }
 
-fn undecoded(world: World, why: Reason) -> Acted {
-    Acted {
-        world,
-        told: Told::ByChannel(ChannelTold::Undecoded(of_reason(why))),
-    }
-}
-
-// A datagram is handed to the end that it is for.
-fn hand(
-    world: World,
-    samples: &mut [u64; 2048],
-    times: &mut [u64; 512],
-    sizes: &mut [u32; 1024],
-    marks: &mut [u8; 2048],
-    datagram: &[u8],
-    back: u64,
-    buf: &mut [u8],
-) -> Acted {
-    match Packet::decode(datagram) {
-        Decoded::Accepted(packet) => {
-            if is_ack(packet) {
-                hear(world, samples, times, sizes, marks, packet, datagram, back)
-            } else {
-                arrive(world, buf, packet, datagram)
-            }
-        }
-        Decoded::Undecoded(why) => undecoded(world, why),
-    }
-}
-
-fn lost_datagram(datagram: &[u8]) -> ChannelTold {
-    match Packet::decode(datagram) {
-        Decoded::Accepted(packet) => {
-            let header = packet.header;
-            if is_ack(packet) {
-                ChannelTold::LostAck(header.ack_num.0 as u64)
-            } else {
-                ChannelTold::Lost(header.seq_num.0 as u64)
-            }
-        }
-        Decoded::Undecoded(why) => ChannelTold::Undecoded(of_reason(why)),
-    }
-}
-
-fn without(world: World, place: usize) -> World {
-    let mut here = world;
-    let channel = here.channel;
-    let after = channel.emptied(place);
-    here.channel = after;
-    here
-}
-
-fn repeated(world: World) -> World {
-    let mut here = world;
-    let mut tally = here.tally;
-    tally.repeated = bump(tally.repeated);
-    here.tally = tally;
-    here
-}
-
-impl Way {
-    // How far back the clock is.
-    fn back(self) -> u64 {
-        match self {
-            Way::Hand(back) => back,
-            _ => 0,
-        }
-    }
-
-    fn is_loss(self) -> bool {
-        match self {
-            Way::Lose => true,
-            _ => false,
-        }
-    }
-
-    // The channel and the counts when the datagram at a place has gone this way.
-    fn gone(self, world: World, place: usize) -> World {
-        match self {
-            Way::Repeat => repeated(world),
-            _ => without(world, place),
-        }
-    }
-}
-
-fn lose(world: World, datagram: &[u8]) -> Acted {
-    Acted {
-        world,
-        told: Told::ByChannel(lost_datagram(datagram)),
-    }
-}
-
-// The channel does something with a datagram.
-fn pass(
-    world: World,
-    samples: &mut [u64; 2048],
-    times: &mut [u64; 512],
-    sizes: &mut [u32; 1024],
-    marks: &mut [u8; 2048],
-    way: Way,
-    start: u64,
-    buf: &mut [u8],
-    memory: &[u8],
-) -> Acted {
-    let channel = world.channel;
-    let place = channel.pick(start);
-    if place >= 64 {
-        return nothing(world);
-    }
-    let datagram = channel.part(place).bytes(memory);
-    let here = way.gone(world, place);
-    if way.is_loss() {
-        lose(here, datagram)
+// A packet is lost.
+fn lose(book: &mut Book, packet: Packet) {
+    let header = packet.header;
+    add(book, LOST, 1);
+    if is_ack(packet) {
+        tell(book, LOST_ACK, header.ack_num.0 as u64, 0)
     } else {
-        hand(
-            here,
-            samples,
-            times,
-            sizes,
-            marks,
-            datagram,
-            way.back(),
-            buf,
-        )
+        tell(book, LOST_PACKET, header.seq_num.0 as u64, 0)
     }
 }
 
-// Does a step.
-pub fn done(
-    world: World,
-    samples: &mut [u64; 2048],
-    times: &mut [u64; 512],
-    sizes: &mut [u32; 1024],
-    marks: &mut [u8; 2048],
-    step: Step,
-    buf: &mut [u8],
-    memory: &mut [u8],
-) -> Acted {
-    match step {
-        Step::Pass(way, start) => pass(
-            world,
-            samples,
-            times,
-            sizes,
-            marks,
-            way,
-            start,
-            buf,
-            memory,
-        ),
-        Step::Build(size) => build(world, (size % 4096) as usize, memory),
-        Step::Read(most) => read(world, buf, (most % 4096) as usize),
-        _ => send(world, samples, times, sizes, marks, step, memory),
+// A packet is handed to the end that it is for.
+fn hand(packet: Packet, part: Part, back: u64) -> Step {
+    if is_ack(packet) {
+        Step::Hear(packet, part, back)
+    } else {
+        Step::Arrive(packet, part)
+    }
+}
+
+// A packet goes a way.
+fn go(book: &mut Book, way: Way, packet: Packet, part: Part) -> Step {
+    match way {
+        Way::Hand(back) => hand(packet, part, back),
+        Way::Repeat => hand(packet, part, 0),
+        Way::Lose => {
+            lose(book, packet);
+            Step::Over
+        }
+    }
+}
+
+// A datagram that goes a way stays at its place, or leaves it.
+fn leave(book: &mut Book, way: Way, place: usize) {
+    match way {
+        Way::Repeat => add(book, REPEATED, 1),
+        _ => note(book, place, 0),
+    }
+}
+
+// The channel does something with the datagram at the first place from `start` on.
+fn pass(book: &mut Book, way: Way, start: u64, memory: &Memory) -> Step {
+    let place = pick(book, start);
+    if place >= 64 {
+        return Step::Over;
+    }
+    let part = part(book, place);
+    leave(book, way, place);
+    match Packet::decode(part.bytes(memory)) {
+        Decoded::Accepted(packet) => go(book, way, packet, part),
+        Decoded::Undecoded(why) => {
+            tell_answer(book, UNDECODED, of_reason(why));
+            Step::Over
+        }
     }
 }
 
@@ -216,19 +131,20 @@ fn send_step(drawn: u64) -> Step {
     Step::Send(0, back_of(drawn / 64))
 }
 
-fn channel_step(plan: Plan, drawn: u64) -> Step {
+fn channel_step(book: &Book, drawn: u64) -> Step {
     let chance = drawn % 16;
-    if chance < plan.losses {
+    let losses = book[LOSSES];
+    if chance < losses {
         return Step::Pass(Way::Lose, drawn / 16);
     }
-    if chance < std::num::wrapping_add_u64(plan.losses, plan.repeats) {
+    if chance < std::num::wrapping_add_u64(losses, book[REPEATS]) {
         return Step::Pass(Way::Repeat, drawn / 16);
     }
     Step::Pass(Way::Hand(back_of(drawn / 1024)), drawn / 16)
 }
 
-fn build_step(plan: Plan, drawn: u64) -> Step {
-    let patience = plan.patience % 64 + 1;
+fn build_step(book: &Book, drawn: u64) -> Step {
+    let patience = book[PATIENCE] % 64 + 1;
     if drawn % patience != 0 {
         return Step::Read(drawn);
     }
@@ -239,17 +155,17 @@ fn build_step(plan: Plan, drawn: u64) -> Step {
 }
 
 // The step that a number drawn by the generator stands for.
-fn step_of(plan: Plan, drawn: u64) -> Step {
+fn step_of(book: &Book, drawn: u64) -> Step {
     let kind = drawn % 32;
     let rest = drawn / 32;
     if kind < 10 {
         return send_step(rest);
     }
     if kind < 23 {
-        return channel_step(plan, rest);
+        return channel_step(book, rest);
     }
     if kind < 26 {
-        return build_step(plan, rest);
+        return build_step(book, rest);
     }
     if kind < 29 {
         return Step::Read(rest % 700);
@@ -257,7 +173,7 @@ fn step_of(plan: Plan, drawn: u64) -> Step {
     if kind < 31 {
         return Step::SendLost(rest);
     }
-    let calm = plan.calm % 64 + 1;
+    let calm = book[CALM] % 64 + 1;
     if rest % calm == 0 {
         return Step::TimeOut;
     }
@@ -265,23 +181,28 @@ fn step_of(plan: Plan, drawn: u64) -> Step {
 }
 
 // The step of this index, of the fixed ones or as it is drawn.
-pub fn next_step(world: World, index: u64) -> Step {
-    let plan = world.plan;
-    let tally = world.tally;
-    if plan.is_fixed {
+fn next_step(book: &Book, index: u64) -> Step {
+    if book[IS_FIXED] == 1 {
         script::step_at(index)
     } else {
-        step_of(plan, tally.seed / 16)
+        step_of(book, book[DRAWN] / 16)
     }
 }
 
-// Time goes on, and a number is drawn.
-pub fn go_on(world: World) -> World {
-    let mut here = world;
-    let mut tally = here.tally;
-    let drawn = next(tally.seed);
-    tally.seed = drawn;
-    tally.clock = std::num::wrapping_add_u64(tally.clock, drawn / 65536 % 20000);
-    here.tally = tally;
-    here
+// Time goes on, a number is drawn, and nothing is told yet.
+fn go_on(book: &mut Book) {
+    let drawn = next(book[DRAWN]);
+    book[DRAWN] = drawn;
+    add(book, CLOCK, drawn / 65536 % 20000);
+    tell(book, NOTHING, 0, 0);
+}
+
+// The step of this index begins with the channel's part.
+pub(crate) fn begin(book: &mut Book, memory: &Memory, index: u64) -> Step {
+    go_on(book);
+    let step = next_step(book, index);
+    match step {
+        Step::Pass(way, start) => pass(book, way, start, memory),
+        _ => step,
+    }
 }

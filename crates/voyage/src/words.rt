@@ -1,82 +1,119 @@
-// What was answered, as a line of words.
-use crate::world::ChannelTold;
-use crate::world::ReceiverTold;
-use crate::world::SenderTold;
-use crate::world::Told;
+// Texts with numbers in them, and what a step told as a line of words.
+use crate::book::Book;
+use crate::book::FIRST;
+use crate::book::TOLD;
 use report::text::print;
 use report::text::put_byte;
-use report::text::put_bytes;
 use report::text::put_number;
 
-fn put_one(room: &mut [u8], words: &[u8], n: u64) -> usize {
-    let used = put_bytes(room, 0, words);
-    put_number(room, used, n)
+// What is told, by the line of words that it has in `say`. The first number is a packet's or an ack's,
+// or a count. The second is a size in bytes, or the number that is in order after it, or of a refusal
+// its answer number.
+pub const NOTHING: u64 = 0;
+
+pub const SENT: u64 = 1;
+
+pub const SENT_AGAIN: u64 = 2;
+
+pub const UNSENT: u64 = 3;
+
+pub const HEARD: u64 = 4;
+
+pub const UNHEARD: u64 = 5;
+
+pub const TIMED_OUT: u64 = 6;
+
+pub const LOST_PACKET: u64 = 7;
+
+pub const LOST_ACK: u64 = 8;
+
+pub const UNDECODED: u64 = 9;
+
+pub const WROTE: u64 = 10;
+
+pub const WAITS: u64 = 11;
+
+pub const WROTE_AGAIN: u64 = 12;
+
+pub const UNWRITTEN: u64 = 13;
+
+pub const READ: u64 = 14;
+
+pub const UNREAD: u64 = 15;
+
+pub const BUILT: u64 = 16;
+
+pub const UNBUILT: u64 = 17;
+
+// A byte, or 0 outside the line that is put.
+fn shown(byte: u8, is_shown: bool) -> u8 {
+    if is_shown { byte } else { 0 }
 }
 
-fn put_pair(room: &mut [u8], words: &[u8], n: u64, more: &[u8], m: u64) -> usize {
-    let used = put_one(room, words, n);
-    let used = put_bytes(room, used, more);
-    put_number(room, used, m)
+// Puts a byte of a text: nothing for a 0, and for a # this number.
+fn put_mark(room: &mut [u8], at: usize, byte: u8, n: u64) -> usize {
+    if byte == 0 {
+        return at;
+    }
+    if byte == b'#' {
+        return put_number(room, at, n);
+    }
+    put_byte(room, at, byte)
 }
 
-fn put_again(room: &mut [u8], words: &[u8], n: u64) -> usize {
-    let used = put_one(room, words, n);
-    put_bytes(room, used, b" again")
-}
-
-fn put_refused(room: &mut [u8], words: &[u8], n: u64, why: u64) -> usize {
-    put_pair(room, words, n, b" refused ", why)
-}
-
-fn put_sack(room: &mut [u8], words: &[u8], n: u64, size: u64) -> usize {
-    put_pair(room, words, n, b", bytes of SACK ", size)
-}
-
-fn put_sender(room: &mut [u8], told: SenderTold) -> usize {
-    match told {
-        SenderTold::Sent(n, size) => put_pair(room, b"sent ", n, b", bytes ", size),
-        SenderTold::SentAgain(n) => put_again(room, b"sent ", n),
-        SenderTold::Unsent(n, why) => put_refused(room, b"transmit of ", n, why),
-        SenderTold::Heard(n, size) => put_sack(room, b"heard ack ", n, size),
-        SenderTold::Unheard(n, why) => put_refused(room, b"ack ", n, why),
-        SenderTold::TimedOut(count) => put_one(room, b"timeout, sent again ", count),
+// The count of a kind of byte, with this byte.
+fn counted(count: usize, byte: u8, kind: u8) -> usize {
+    if byte == kind {
+        std::num::wrapping_add_usize(count, 1)
+    } else {
+        count
     }
 }
 
-fn put_channel(room: &mut [u8], told: ChannelTold) -> usize {
-    match told {
-        ChannelTold::Lost(n) => put_one(room, b"lost ", n),
-        ChannelTold::LostAck(n) => put_one(room, b"lost ack ", n),
-        ChannelTold::Undecoded(why) => put_one(room, b"datagram refused ", why),
+// Puts a line of a text. Each # in it stands for the next number of the book, from a place on.
+pub(crate) fn put_line(
+    room: &mut [u8],
+    at: usize,
+    text: &[u8],
+    line: usize,
+    book: &Book,
+    place: usize,
+) -> usize {
+    let mut used = at;
+    let mut lines: usize = 0;
+    let mut next = place;
+    let mut i: usize = 0;
+    while i < text.len() {
+        let byte = shown(text[i], lines == line);
+        used = put_mark(room, used, byte, book[next % 128]);
+        next = counted(next, byte, b'#');
+        lines = counted(lines, text[i], b'\n');
+        i += 1;
     }
+    used
 }
 
-fn put_receiver(room: &mut [u8], told: ReceiverTold) -> usize {
-    match told {
-        ReceiverTold::Wrote(n, ack) => put_pair(room, b"wrote ", n, b", in order to ", ack),
-        ReceiverTold::Waits(n) => put_one(room, b"wrote, waits: ", n),
-        ReceiverTold::WroteAgain(n) => put_again(room, b"wrote ", n),
-        ReceiverTold::Unwritten(n, why) => put_refused(room, b"write of ", n, why),
-        ReceiverTold::Read(n) => put_one(room, b"read, bytes ", n),
-        ReceiverTold::Unread(why) => put_one(room, b"read refused ", why),
-        ReceiverTold::Built(n, size) => put_sack(room, b"built ack ", n, size),
-        ReceiverTold::Unbuilt(why) => put_one(room, b"ack not built, refused ", why),
-    }
-}
-
-fn put_told(room: &mut [u8], told: Told) -> usize {
-    match told {
-        Told::Nothing => put_bytes(room, 0, b"nothing"),
-        Told::BySender(inner) => put_sender(room, inner),
-        Told::ByChannel(inner) => put_channel(room, inner),
-        Told::ByReceiver(inner) => put_receiver(room, inner),
-    }
-}
-
-// Prints a line.
-pub fn say(told: Told) {
+// Prints what a step told.
+pub(crate) fn say(book: &Book) {
     let mut room = io::buffer();
-    let used = put_told(&mut room, told);
-    let used = put_byte(&mut room, used, b'\n');
+    let text = b"nothing\n\
+        sent #, bytes #\n\
+        sent # again\n\
+        transmit of # refused #\n\
+        heard ack #, bytes of SACK #\n\
+        ack # refused #\n\
+        timeout, sent again #\n\
+        lost #\n\
+        lost ack #\n\
+        datagram refused #\n\
+        wrote #, in order to #\n\
+        wrote, waits: #\n\
+        wrote # again\n\
+        write of # refused #\n\
+        read, bytes #\n\
+        read refused #\n\
+        built ack #, bytes of SACK #\n\
+        ack not built, refused #\n";
+    let used = put_line(&mut room, 0, text, (book[TOLD] % 32) as usize, book, FIRST);
     print(&room, used);
 }

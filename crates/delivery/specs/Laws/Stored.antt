@@ -9,10 +9,10 @@ use lib.Dec.{leb, ltb, eqb}
 use lib.ListN.{length, take, drop, getD}
 use lib.Seq.{take-append-seam}
 use borrow.Author.Tests.{leb-false, lt-ltb, eqb-true}
-use Rattle.packet.specs.Seq.{offsetOf}
-use Rattle.packet.specs.Sack.{bitOf}
-use Rattle.packet.specs.Laws.Seq.{offset-of-plus}
-use Rattle.packet.specs.declared.seq.SeqNum.{SeqNum}
+use Rattle.wire.specs.Seq.{offsetOf}
+use Rattle.wire.specs.Sack.{bitOf}
+use Rattle.wire.specs.Laws.Seq.{offset-of-plus}
+use Rattle.wire.specs.declared.seq.SeqNum.{SeqNum}
 use Rattle.recv.specs.declared.ReceiveBuffer.{ReceiveBuffer}
 use Rattle.recv.specs.declared.Count.the-variants.{Is as is-count, Refused as count-refused}
 use Rattle.recv.specs.declared.Number.the-variants.{Is as is-number, Refused as number-refused}
@@ -24,7 +24,6 @@ use Rattle.recv.specs.Table.{waits, thereOf, sackOf}
 use Rattle.recv.specs.State.{tableOf, soundOf, ackOf}
 use Rattle.recv.specs.Receiver.{changed, storedOf, readOf}
 use Rattle.recv.specs.Calls.{payloadsOf, receiverOf, over, writtenOf, takenOf, answerOf, stateOf, readyFor}
-use Rattle.recv.specs.Runs as Recv
 use Rattle.recv.specs.Runs.{Entry, Run, firstStored, orElse}
 use Rattle.recv.specs.Laws.State.{sound-facts}
 use Rattle.recv.specs.Laws.Sack.{bit-means}

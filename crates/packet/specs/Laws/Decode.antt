@@ -3,7 +3,8 @@ use Prim.Native.Nat.{ℕ, _+_, _-_, _/_, _%_, _≤_, _<_}
 use mathlib.Core.Bool.{true, false}
 use lib.Dec.{ltb}
 use borrow.Author.Tests.{lt-ltb, le-ltb, le-leb, eq-eqb, ne-eqb}
-use Rattle.packet.specs.Layout.{headerOf, headerWith, typeOf, typeField, versionField}
+use Rattle.wire.specs.Kind.{typeOf}
+use Rattle.packet.specs.Layout.{headerOf, headerWith, typeField, versionField}
 use lib.ListN.{length, getD, length-append}
 use lib.Seq.{take-at, drop-at}
 use native.Mathlib.Omega.{arith}
@@ -15,7 +16,6 @@ use Rattle.packet.specs.Decode.{sackAnswer, payloadAnswer, packetOf, beh
 use Rattle.packet.specs.Laws.Layout.{extension-field, first-field}
 use Rattle.packet.specs.declared.decode.Packet.{Packet}
 use Rattle.packet.specs.declared.header.Header.{Header}
-use Rattle.packet.specs.declared.extension.Part.{Part}
 use Rattle.packet.specs.declared.extension.ChainRead.{ChainRead}
 use Rattle.packet.specs.declared.extension.ChainRead.the-variants.{Past, Plain, WithSack}
 

@@ -3,15 +3,15 @@ use Prim.Native.Nat.{ℕ, _+_, _/_, _%_, _≤_, _<_}
 use native.Mathlib.Omega.{arith}
 use mathlib.Core.Bool.{Bool, true, false, cond}
 use mathlib.Core.List.{List, [], _∷_, _++_, append-assoc}
-use mathlib.Core.Path.{_≡_, _∙_, refl, ap, sym}
+use mathlib.Core.Path.{_≡_, _∙_, refl, ap}
 use lib.ListN.{length, length-append}
 use lib.Dec.{ltb, eqb, eqb·suc-zero}
 use borrow.Author.Tests.{lt-ltb, le-ltb, ltb-false, eqb-true}
 use Rattle.common.specs.Answer.{Answer, done, refused, _then_}
 use Rattle.common.specs.Laws.Put.{put, put-on}
-use Rattle.packet.specs.Layout.{bytes, bytesOf, widths, fieldsOfHeader, emptyData}
-use Rattle.packet.specs.Sack.{maskAnswer}
-use Rattle.packet.specs.Encode.{extensionByte, extensionBytes, packetBytes, sizeOf, dataAnswer, encodeOf, roomAnswer}
+use Rattle.packet.specs.Layout.{bytes, bytesOf, widths, fieldsOfHeader}
+use Rattle.wire.specs.Sack.{maskAnswer}
+use Rattle.packet.specs.Encode.{packetBytes, sizeOf, dataAnswer, encodeOf, roomAnswer}
 use Rattle.packet.specs.Laws.Number.{bytes-two}
 use Rattle.packet.specs.declared.header.Header.{Header}
 

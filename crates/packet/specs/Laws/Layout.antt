@@ -1,18 +1,14 @@
 -- Laws of the layout: each field stands at the sum of the widths before it.
 use Prim.Native.Nat.{ℕ, _+_, _*_, _/_, _%_, _≤_, _<_}
 use native.Mathlib.Omega.{arith}
-use mathlib.Core.Bool.{Bool, true, false, cond}
 use mathlib.Core.List.{List, [], _∷_, _++_}
 use mathlib.Core.Path.{_≡_, _∙_, refl, ap}
-use lib.Dec.{ltb}
 use lib.ListN.{length, take, drop, getD}
 use lib.Seq.{drop-cons, drop-drop}
-use Rattle.common.specs.Answer.{Answer, done, refused}
 use Rattle.common.specs.Laws.Put.{put, put-on}
 use Rattle.packet.specs.declared.header.Header.{Header}
-use Rattle.packet.specs.Layout.{fieldsOfHeader, big, bytes, fieldsOf, bytesOf, widths, typeAnswer, typeOf, typeNumber, extensionField}
-use Rattle.packet.specs.declared.header.PacketType.{PacketType}
-use Rattle.packet.specs.declared.header.PacketType.the-variants.{Data, Fin, State, Reset, Syn}
+use Rattle.wire.specs.Kind.{typeNumber}
+use Rattle.packet.specs.Layout.{fieldsOfHeader, big, bytes, fieldsOf, bytesOf, widths, extensionField}
 
 next-field : (w at : ℕ) (ws rest l : List ℕ) → fieldsOf ws (drop (at + w) l) ≡ rest → fieldsOf (w ∷ ws) (drop at l) ≡ big (take w (drop at l)) ∷ rest
 unfolding fieldsOf
@@ -48,28 +44,6 @@ first-field l h = simp (header-fields) (big-one l 0 (omega arith))
 
 pub extension-field : (l : List ℕ) → 20 ≤ length l → extensionField l ≡ getD l 1 0
 extension-field l h = simp (header-fields) (big-one l 1 (omega arith))
-
--- What reading a type's number tells.
-pub type-unknown : (n : ℕ) → refused 2 ≡ typeAnswer n → ltb 4 n ≡ true
-type-unknown n = go (ltb 4 n)
-  where
-    go : (b : Bool) → refused 2 ≡ cond b (refused 2) (done (typeOf n)) → b ≡ true
-    go true e = refl
-    go false e = let z : _≡_ {A = ℕ} 0 1 = cc in absurd (omega arith)
-
-pub type-known : (n : ℕ) (t : PacketType) → done t ≡ typeAnswer n → (ltb 4 n ≡ false) × (t ≡ typeOf n)
-type-known n t = go (ltb 4 n)
-  where
-    go : (b : Bool) → done t ≡ cond b (refused 2) (done (typeOf n)) → (b ≡ false) × (t ≡ typeOf n)
-    go true e = let z : _≡_ {A = ℕ} 0 1 = cc in absurd (omega arith)
-    go false e = (refl, cc)
-
-pub type-small : (t : PacketType) → typeNumber t ≤ 4
-type-small Data = omega arith
-type-small Fin = omega arith
-type-small State = omega arith
-type-small Reset = omega arith
-type-small Syn = omega arith
 
 -- The header's bytes, written two or four at a time.
 pub header-bytes :

@@ -1,12 +1,11 @@
 -- Laws of big-endian numbers.
 use Prim.Native.Nat.{ℕ, zero, suc, _+_, _*_, _/_, _%_, _^_, _≤_, _<_}
-use native.Mathlib.Nat.{div-one, mul-add-div-right}
+use native.Mathlib.Nat.{div-one}
 use native.Mathlib.Numerals.{add-one}
 use native.Mathlib.Omega.{arith}
-use mathlib.Core.Path.{_≡_, _∙_, refl, ap, ap₂, sym}
+use mathlib.Core.Path.{_≡_, _∙_, refl, ap}
 use mathlib.Core.List.{List, [], _∷_, _++_}
 use lib.ListN.{length, take, drop, getD, length-append, length-take, length-drop}
-use lib.Arith.{mod-mul, digits-div, digits-mod}
 use lib.Pow.{pow-add}
 use lib.Seq.{drop-cons, take-add, drop-drop}
 use Rattle.packet.specs.Layout.{big, bytes}

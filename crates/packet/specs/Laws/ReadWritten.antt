@@ -1,32 +1,31 @@
 -- Reading a written packet gives its parts back (document 01, "Packets on the wire").
-use Prim.Native.Nat.{ℕ, zero, suc, _+_, _*_, _-_, _/_, _%_, _^_, _≤_, _<_}
+use Prim.Native.Nat.{ℕ, suc, _+_, _*_, _-_, _/_, _%_, _^_, _≤_, _<_}
 use native.Mathlib.Omega.{arith}
 use mathlib.Core.Bool.{Bool, true, false, cond}
 use mathlib.Core.List.{List, [], _∷_, _++_, append-assoc, append-nil}
 use mathlib.Core.Path.{_≡_, _∙_, refl, ap, sym}
-use lib.Dec.{ltb, leb, eqb, eqb·suc-zero}
+use lib.Dec.{ltb, eqb, eqb·suc-zero}
 use lib.ListN.{length, getD, length-append}
 use lib.Seq.{getD-append-add}
 use borrow.Author.Tests.{le-leb, eqb-true}
 use Rattle.common.specs.Answer.{Answer, done, refused}
-use Rattle.packet.specs.Layout.{bytesOf, fieldsOf, widths, fieldsOfHeader, headerOf, typeField, versionField, extensionField, typeNumber, typeOf, emptyData}
+use Rattle.wire.specs.Kind.{typeNumber, typeOf}
+use Rattle.packet.specs.Layout.{bytesOf, fieldsOf, widths, fieldsOfHeader, headerOf, typeField, versionField, extensionField, emptyData}
 use Rattle.packet.specs.Chain.{stepOf, chainFrom, whole, none}
-use Rattle.packet.specs.Sack.{maskAnswer}
+use Rattle.wire.specs.Sack.{maskAnswer}
 use Rattle.packet.specs.Decode.{behindHeader, chainOf, decodeOf, partOf}
 use Rattle.packet.specs.Encode.{extensionByte, extensionBytes, packetBytes, sizeOf, encodeOf}
 use Rattle.packet.specs.Laws.Chain.{chain-ends, chain-found}
 use Rattle.packet.specs.Laws.Decode.{decode-good, part-middle}
 use Rattle.packet.specs.Laws.Encode.{header-length, packet-length, encode-unfit}
-use Rattle.packet.specs.Laws.Layout.{type-small}
+use Rattle.wire.specs.Laws.Kind.{type-small, type-back}
 use Rattle.packet.specs.Laws.RoundTrip.{Fitted, fields-of-bytes}
-use Rattle.packet.specs.declared.decode.Packet.{Packet}
 use Rattle.packet.specs.declared.extension.Cursor.{Cursor}
 use Rattle.packet.specs.declared.extension.Extension.{Extension}
 use Rattle.packet.specs.declared.extension.Part.{Part}
-use Rattle.packet.specs.declared.extension.Step.the-variants.{Ends, Found}
+use Rattle.packet.specs.declared.extension.Step.the-variants.{Found}
 use Rattle.packet.specs.declared.header.Header.{Header}
-use Rattle.packet.specs.declared.header.PacketType.{PacketType}
-use Rattle.packet.specs.declared.header.PacketType.the-variants.{Data, Fin, State, Reset, Syn}
+use Rattle.wire.specs.declared.kind.PacketType.{PacketType}
 
 -- Each field of a header fits its width, as the field of a struct of such numbers always does.
 pub record HeaderFits (h : Header) : Type 0 where
@@ -36,13 +35,6 @@ pub record HeaderFits (h : Header) : Type 0 where
   pub window : h .«window_size» < 2 ^ 32
   pub seq : h .«seq_num» .0 < 2 ^ 16
   pub ack : h .«ack_num» .0 < 2 ^ 16
-
-type-back : (t : PacketType) → typeOf (typeNumber t) ≡ t
-type-back Data = refl
-type-back Fin = refl
-type-back State = refl
-type-back Reset = refl
-type-back Syn = refl
 
 -- Where a written packet's parts stand: the SACK behind the header and its head of two bytes, the payload behind all.
 abbrev pub placeOfSack : List ℕ → Part

@@ -2,14 +2,14 @@
 use Prim.Native.Nat.{ℕ, zero, suc, _+_, _*_, _-_, _/_, _%_, _^_, _≤_, _<_}
 use native.Mathlib.Nat.{mod-one, mod-eq-of-lt, mul-comm, pow-suc, mul-add-div-right, mul-add-mod-self-right}
 use native.Mathlib.Omega.{arith}
-use mathlib.Core.Bool.{Bool, true, false, cond}
 use mathlib.Core.List.{List, [], _∷_, _++_, append-assoc}
 use mathlib.Core.Path.{_≡_, _∙_, refl, ap, ap₂, sym}
-use lib.ListN.{length, take, drop, getD, length-append, length-take, length-drop}
+use lib.ListN.{length, take, drop, length-take, length-drop}
 use lib.Arith.{mod-mul, digits-div, digits-lt}
 use lib.Pow.{pow-add}
 use lib.Seq.{take-at, drop-at, take-add, length-take-le}
-use Rattle.packet.specs.Layout.{big, bytes, fieldsOf, bytesOf, widths}
+use Rattle.common.specs.Bytes.{AllBytes}
+use Rattle.packet.specs.Layout.{big, bytes, fieldsOf, bytesOf}
 use Rattle.packet.specs.Laws.Number.{pow-256-pos}
 
 -- ---- numbers and their bytes
@@ -22,11 +22,6 @@ pub big-bytes : (w n : ℕ) → big (bytes w n) ≡ n % 256 ^ w
 big-bytes zero n = sym (mod-one n)
 big-bytes (suc w) n =
     rw (length-bytes w n, big-bytes w n, pow-suc 256 w, mul-comm (256 ^ w) 256) (sym (mod-mul n {m = 256} {c = 256 ^ w} (omega arith) (pow-256-pos w)))
-
--- Every element is a byte.
-abbrev pub AllBytes : List ℕ → Type 0
-AllBytes [] = Unit {0}
-AllBytes (b ∷ bs) = (b < 256) × AllBytes bs
 
 pub big-bound : (l : List ℕ) → AllBytes l → big l < 256 ^ length l
 big-bound [] h = omega arith

@@ -1,21 +1,24 @@
 -- Writing a read packet gives the same bytes when its chain is empty or is one SACK (document 01, "Packets on the wire").
-use Prim.Native.Nat.{ℕ, zero, suc, _+_, _*_, _-_, _/_, _%_, _^_, _≤_, _<_}
+use Prim.Native.Nat.{ℕ, zero, _+_, _*_, _-_, _%_, _≤_}
 use native.Mathlib.Omega.{arith}
 use mathlib.Core.Bool.{Bool, true, false, cond}
-use mathlib.Core.List.{List, [], _∷_, _++_, append-assoc}
+use mathlib.Core.List.{List, [], _∷_, _++_}
 use mathlib.Core.Path.{_≡_, _∙_, refl, ap, ap₂, sym}
-use lib.Dec.{ltb, leb, eqb}
+use lib.Dec.{ltb, eqb}
 use lib.ListN.{length, take, drop, getD, take-append-drop, length-take, length-drop}
 use lib.Seq.{drop-cons, drop-drop, take-all, length-take-le}
 use borrow.Author.Tests.{le-leb, eqb-true, ltb-false}
 use Rattle.common.specs.Answer.{Answer, done, refused, _then_}
-use Rattle.packet.specs.Layout.{bytesOf, fieldsOf, widths, fieldsOfHeader, headerLength, headerOf, typeField, versionField, extensionField, typeNumber, typeOf, emptyData}
-use Rattle.packet.specs.Chain.{Chain, past, whole, before, stepOf, extensionAt, goOn, chainFrom, none, inside, firstSack}
+use Rattle.wire.specs.Kind.{typeNumber, typeOf}
+use Rattle.wire.specs.Laws.Kind.{number-back}
+use Rattle.packet.specs.Layout.{bytesOf, fieldsOf, widths, fieldsOfHeader, headerLength, headerOf, typeField, versionField, extensionField, emptyData}
+use Rattle.packet.specs.Chain.{Chain, past, whole, before, stepOf, extensionAt, goOn, chainFrom, none, inside}
 use Rattle.packet.specs.Decode.{behindHeader, chainOf, decodeOf, partOf, packetOf, sackAnswer, payloadAnswer}
 use Rattle.packet.specs.Encode.{extensionByte, extensionBytes, packetBytes}
 use Rattle.packet.specs.Laws.Chain.{chain-step, step-ends, step-found}
 use Rattle.packet.specs.Laws.Decode.{decode-good}
-use Rattle.packet.specs.Laws.RoundTrip.{AllBytes, bytes-of-fields}
+use Rattle.common.specs.Bytes.{AllBytes}
+use Rattle.packet.specs.Laws.RoundTrip.{bytes-of-fields}
 use Rattle.packet.specs.declared.decode.Packet.{Packet}
 use Rattle.packet.specs.declared.extension.Cursor.{Cursor}
 use Rattle.packet.specs.declared.extension.Extension.{Extension}
@@ -48,14 +51,6 @@ good-header d p e = go (ltb (length d) 20) (ltb 4 (typeField d)) (eqb (versionFi
     go false true b₃ t u v f = let z : _≡_ {A = ℕ} 0 1 = cc in absurd (omega arith)
     go false false false t u v f = let z : _≡_ {A = ℕ} 0 1 = cc in absurd (omega arith)
     go false false true t u v f = record { long = ltb-false _ _ t; type = ltb-false _ _ u; version = eqb-true _ _ v }
-
-number-back : (n : ℕ) → n ≤ 4 → typeNumber (typeOf n) ≡ n
-number-back zero h = refl
-number-back (suc zero) h = refl
-number-back (suc (suc zero)) h = refl
-number-back (suc (suc (suc zero))) h = refl
-number-back (suc (suc (suc (suc zero)))) h = refl
-number-back (suc (suc (suc (suc (suc n))))) h = absurd (omega arith)
 
 -- The fields of the header that was read are the fields of the datagram.
 fields-back : (d : List ℕ) → GoodHeader d → fieldsOfHeader (headerOf d) (extensionField d) ≡ fieldsOf widths d

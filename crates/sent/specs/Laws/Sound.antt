@@ -8,7 +8,8 @@ use lib.Dec.{leb, eqb}
 use lib.ListN.{length, take, getD}
 use borrow.Author.Tests.{le-leb, leb-true, eqb-true, eq-eqb, ne-eqb}
 use Rattle.congestion.specs.Laws.Numbers.{both, and-of}
-use Rattle.outgoing.specs.Read.{someUnacked}
+use Rattle.outgoing.specs.Read.{someUnacked, toldOf}
+use Rattle.outgoing.specs.Laws.Told.{told-alike}
 use Rattle.congestion.specs.Numbers.{soundOf}
 use Rattle.controller.specs.Delays.{delaysSoundOf}
 use Rattle.outgoing.specs.declared.kept.Packet.{Packet}
@@ -42,6 +43,10 @@ sound-by-parts s numbers delays first packets sum h k n d f p i =
 -- 19 before everything.
 pub read-sound : {A : Type 0} (s : SentPackets) (f : Tracker → A) → stateSoundOf s ≡ true → readOf s f ≡ done (f (trackerOf s))
 read-sound s f e = ap (λ (t : Bool). cond t (done (f (trackerOf s))) (refused 19)) e
+
+-- A question is answered by whether the state is sound and by what is read of a sound one.
+pub read-told : {A : Type 0} (s : SentPackets) (f : Tracker → A) (b : Bool) (a : A) → b ≡ stateSoundOf s → (stateSoundOf s ≡ true → a ≡ f (trackerOf s)) → toldOf b a ≡ readOf s f
+read-told s f b a e same = ap (λ (t : Bool). toldOf t a) e ∙ told-alike (stateSoundOf s) a (f (trackerOf s)) same
 
 pub unsound-refused : {A : Type 0} (s : SentPackets) (a : Answer A) → stateSoundOf s ≡ false → whenStateSound s a ≡ refused 19
 unsound-refused s a e = ap (λ (t : Bool). cond t a (refused 19)) e
@@ -95,8 +100,10 @@ unfolding stateSoundOf
 state-from s h t = and-of (leb (s .live) places) (trackerSoundOf (trackerOf s)) (le-leb _ _ h) (tracker-from (trackerOf s) t)
 
 -- The counts of a sound state, in the state's own words.
-pub state-counts : (s : SentPackets) → stateSoundOf s ≡ true → length (s .packets) ≡ places
-    → (s .live ≤ places) × (s .live ≤ s .count) × (s .count ≤ mostSent) × (length (take (s .live) (s .packets)) ≡ s .live)
+abbrev pub CountsOf : SentPackets → Type 0
+CountsOf s = (s .live ≤ places) × (s .live ≤ s .count) × (s .count ≤ mostSent) × (length (take (s .live) (s .packets)) ≡ s .live)
+
+pub state-counts : (s : SentPackets) → stateSoundOf s ≡ true → length (s .packets) ≡ places → CountsOf s
 state-counts s e full =
     let f = state-facts s e in
     let len = kept-length (s .packets) (s .live) (omega (arith, f .0)) in

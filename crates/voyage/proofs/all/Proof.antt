@@ -5,10 +5,10 @@ use Rattle.voyage.proofs.all.Statement.{statement}
 use Rattle.voyage.proofs.all.Tie as tie
 
 abbrev Inv-loop : tie.InvT-loop
-Inv-loop here₀ seed₀ here seed = Unit {0}
+Inv-loop totals₀ seed₀ totals seed = Unit {0}
 
 abbrev μ-loop : tie.MeasureT-loop
-μ-loop here₀ seed₀ here seed = 241 - seed
+μ-loop totals₀ seed₀ totals seed = 241 - seed
 
 loop-holds : tie.Need-loop-holds Inv-loop μ-loop
 loop-holds c = search needs

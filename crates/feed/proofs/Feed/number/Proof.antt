@@ -1,5 +1,5 @@
 -- `Feed::number` is safe and ends. The window keeps its length; the measure is the number of turns that are left.
-use Prim.Native.Nat.{_+_, _-_, _≤_}
+use Prim.Native.Nat.{_-_, _≤_}
 use borrow.Author.Needs.{needs}
 use lib.ListN.{length}
 use mathlib.Core.Path.{_≡_}

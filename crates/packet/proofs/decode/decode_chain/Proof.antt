@@ -1,5 +1,5 @@
 -- `decode_chain` meets its contract: what `read_chain` kept of the chain decides, and the tests on the SACK's length say which case of `sackAnswer` holds.
-use mathlib.Core.Path.{_≡_, _∙_, sym, ap}
+use mathlib.Core.Path.{_∙_, sym}
 use borrow.Author.Tests.{lt-ltb, le-ltb, eq-eqb, ne-eqb}
 use lib.ListN.{length}
 use denote.Ref.{now}
@@ -8,68 +8,52 @@ use Rattle.packet.specs.Laws.Decode.{chain-of, behind-read}
 use borrow.Author.Needs.{needs}
 use Rattle.packet.proofs.decode.decode_chain.Statement.{statement}
 use Rattle.packet.proofs.decode.decode_chain.Tie as tie
-use Rattle.packet.proofs.decode.decode_chain.Reads as reads
-use Rattle.packet.proofs.decode.decode_chain.Lts as lts
-use Rattle.packet.proofs.decode.finish.Reads as finish-reads
-use Rattle.packet.proofs.extension.read_chain.Reads as read-chain-reads
 
--- src/decode.rt:68:21
 shared-slice-read-t9 : tie.Need-shared-slice-read-t9
 shared-slice-read-t9 c = search needs
 
--- src/decode.rt:65:11
 read-chain-requires : tie.Need-read-chain-requires
 read-chain-requires c κs = search needs
 
--- src/decode.rt:72:47
 enum-told : tie.Need-enum-told
 enum-told c = search needs
 
--- src/decode.rt:73:26
 enum-known-at : tie.Need-enum-known-at
 enum-known-at c = search needs
 
--- src/decode.rt:73:33
 finish-requires : tie.Need-finish-requires
 finish-requires c κs = search needs
 
--- src/decode.rt:74:29
 enum-known-sack : tie.Need-enum-known-sack
 enum-known-sack c = search needs
 
--- src/decode.rt:76:17
 returns : tie.Need-returns
 returns c = let d = now (c .before .before .before .before .before .before .before .before .args .datagram) in
     let h = c .before .before .before .before .before .before .before .before .args .header in
     let kept = chain-of d (c .before .before .before .before .before .before .before .before .pre) ∙ (sym (c .before .before .before .before .before .read-chain .ensures) ∙ c .before .before .before .sack .given .1) in
     simp (behind-read h (length d) (chainOf d) _ kept, lt-ltb _ _ (c .if1 .taken))
 
--- src/decode.rt:79:17
 returns-2 : tie.Need-returns-2
 returns-2 c = let d = now (c .before .before .before .before .before .before .before .before .before .before .args .datagram) in
     let h = c .before .before .before .before .before .before .before .before .before .before .args .header in
     let kept = chain-of d (c .before .before .before .before .before .before .before .before .before .before .pre) ∙ (sym (c .before .before .before .before .before .before .before .read-chain .ensures) ∙ c .before .before .before .before .before .sack .given .1) in
     simp (behind-read h (length d) (chainOf d) _ kept, le-ltb _ _ (c .before .before .if1 .left), ne-eqb _ _ (c .if2 .taken))
 
--- src/decode.rt:81:13
 finish-requires-2 : tie.Need-finish-requires-2
 finish-requires-2 c κs = search needs
 
--- src/decode.rt:60:1
 returns-3 : tie.Need-returns-3
 returns-3 c = let d = now (c .before .before .before .before .before .args .datagram) in
     let h = c .before .before .before .before .before .args .header in
     let kept = chain-of d (c .before .before .before .before .before .pre) ∙ (sym (c .before .before .read-chain .ensures) ∙ c .enum-told .given .1) in
     sym (behind-read h (length d) (chainOf d) _ kept)
 
--- src/decode.rt:60:1
 returns-4 : tie.Need-returns-4
 returns-4 c = let d = now (c .before .before .before .before .before .before .before .args .datagram) in
     let h = c .before .before .before .before .before .before .before .args .header in
     let kept = chain-of d (c .before .before .before .before .before .before .before .pre) ∙ (sym (c .before .before .before .before .read-chain .ensures) ∙ c .before .before .at .given .1) in
     c .finish .ensures ∙ sym (behind-read h (length d) (chainOf d) _ kept)
 
--- src/decode.rt:60:1
 returns-5 : tie.Need-returns-5
 returns-5 c = let d = now (c .before .before .before .before .before .before .before .before .before .before .before .args .datagram) in
     let h = c .before .before .before .before .before .before .before .before .before .before .before .args .header in

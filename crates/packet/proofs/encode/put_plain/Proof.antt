@@ -5,24 +5,16 @@ use Rattle.packet.specs.Laws.Encode.{plain-put}
 use borrow.Author.Needs.{needs}
 use Rattle.packet.proofs.encode.put_plain.Statement.{statement}
 use Rattle.packet.proofs.encode.put_plain.Tie as tie
-use Rattle.packet.proofs.encode.put_plain.Reads as reads
-use Rattle.packet.proofs.encode.put_plain.Lts as lts
-use Rattle.packet.proofs.header.put_header.Reads as put-header-reads
-use Rattle.packet.proofs.number.put_all.Reads as put-all-reads
 
--- src/encode.rt:72:5
 put-header-requires : tie.Need-put-header-requires
 put-header-requires c κs = search needs
 
--- src/encode.rt:73:5
 put-all-requires : tie.Need-put-all-requires
 put-all-requires c κs = search needs
 
--- src/encode.rt:68:1
 same-length : tie.Need-same-length
 same-length c = search needs
 
--- src/encode.rt:68:1
 returns : tie.Need-returns
 returns c = plain-put (c .before .before .before .before .before .before .before .before .before .before .args .header) (now (c .before .before .before .before .before .before .before .before .before .before .args .payload)) _ _ _ (omega (arith, c .before .before .before .before .before .before .before .before .before .before .pre)) (c .before .before .before .before .before .before .put-header .ensures) (c .before .before .put-all .ensures)
 

@@ -1,45 +1,31 @@
 -- `put_sacked` meets its contract: four writings, each right behind the one before.
-use native.Mathlib.Omega.{arith}
 use denote.Ref.{now}
 use Rattle.packet.specs.Laws.Encode.{sacked-put}
 use borrow.Author.Needs.{needs}
 use Rattle.packet.proofs.encode.put_sacked.Statement.{statement}
 use Rattle.packet.proofs.encode.put_sacked.Tie as tie
-use Rattle.packet.proofs.encode.put_sacked.Reads as reads
-use Rattle.packet.proofs.encode.put_sacked.Lts as lts
-use Rattle.packet.proofs.header.put_header.Reads as put-header-reads
-use Rattle.packet.proofs.number.put16.Reads as put16-reads
-use Rattle.packet.proofs.number.put_all.Reads as put-all-reads
 
--- src/encode.rt:82:5
 put-header-requires : tie.Need-put-header-requires
 put-header-requires c κs = search needs
 
--- src/encode.rt:83:21
 cast-put16 : tie.Need-cast-put16
 cast-put16 c = search needs
 
--- src/encode.rt:83:5
 put16-requires : tie.Need-put16-requires
 put16-requires c κs = search needs
 
--- src/encode.rt:84:5
 put-all-requires : tie.Need-put-all-requires
 put-all-requires c κs = search needs
 
--- src/encode.rt:85:19
 add-put-all : tie.Need-add-put-all
 add-put-all c = search needs
 
--- src/encode.rt:85:5
 put-all-requires-2 : tie.Need-put-all-requires-2
 put-all-requires-2 c κs = search needs
 
--- src/encode.rt:77:1
 same-length : tie.Need-same-length
 same-length c = search needs
 
--- src/encode.rt:77:1
 returns : tie.Need-returns
 returns c = let a = c .before .before .before .before .before .before .before .before .before .before .before .before .before .before .before .before .before .before .before .args in
     let p = c .before .before .before .before .before .before .before .before .before .before .before .before .before .before .before .before .before .before .before .pre in

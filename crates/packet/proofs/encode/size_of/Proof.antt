@@ -3,26 +3,19 @@ use borrow.Author.Tests.{eq-eqb, ne-eqb}
 use borrow.Author.Needs.{needs}
 use Rattle.packet.proofs.encode.size_of.Statement.{statement}
 use Rattle.packet.proofs.encode.size_of.Tie as tie
-use Rattle.packet.proofs.encode.size_of.Reads as reads
-use Rattle.packet.proofs.encode.size_of.Lts as lts
 
--- src/encode.rt:56:9
 add-result : tie.Need-add-result
 add-result c = search needs
 
--- src/encode.rt:58:9
 add-result-2 : tie.Need-add-result-2
 add-result-2 c = search needs
 
--- src/encode.rt:58:9
 add-result-3 : tie.Need-add-result-3
 add-result-3 c = search needs
 
--- src/encode.rt:51:1
 returns : tie.Need-returns
 returns c = simp (eq-eqb _ _ (c .if1 .taken))
 
--- src/encode.rt:51:1
 returns-2 : tie.Need-returns-2
 returns-2 c = simp (ne-eqb _ _ (c .if1 .left))
 

@@ -11,9 +11,6 @@ use lib.ListN.{length}
 use Rattle.packet.specs.Chain.{endOf, chainFrom}
 use Rattle.packet.proofs.extension.chain_end.Statement.{statement}
 use Rattle.packet.proofs.extension.chain_end.Tie as tie
-use Rattle.packet.proofs.extension.chain_end.Reads as reads
-use Rattle.packet.proofs.extension.chain_end.Lts as lts
-use Rattle.packet.proofs.extension.Cursor.step.Reads as step-reads
 
 abbrev Inv-loop : tie.InvT-loop
 Inv-loop datagram cursor₀ cursor = endOf (chainFrom datagram cursor₀) ≡ endOf (chainFrom datagram cursor)
@@ -21,45 +18,36 @@ Inv-loop datagram cursor₀ cursor = endOf (chainFrom datagram cursor₀) ≡ en
 abbrev μ-loop : tie.MeasureT-loop
 μ-loop datagram cursor₀ cursor = length datagram + 1 - cursor .at
 
--- src/extension.rt:103:5
 loop-holds : tie.Need-loop-holds Inv-loop μ-loop
 loop-holds c = refl
 
--- src/extension.rt:104:15
 step-requires : tie.Need-step-requires Inv-loop μ-loop
 step-requires c κs = search needs
 
--- src/extension.rt:105:27
 enum-told : tie.Need-enum-told Inv-loop μ-loop
 enum-told c = search needs
 
--- src/extension.rt:105:27
 returns : tie.Need-returns Inv-loop μ-loop
 returns c = let d = now (c .before .before .before .before .before .args .datagram) in
     let l = c .before .before .before .loop in
     sym (l .inv ∙ ap endOf (chain-ends d (l .cursor) (sym (c .before .before .step .ensures) ∙ c .enum-told .given .1)))
 
--- src/extension.rt:106:31
 enum-told-2 : tie.Need-enum-told-2 Inv-loop μ-loop
 enum-told-2 c = search needs
 
--- src/extension.rt:106:31
 returns-2 : tie.Need-returns-2 Inv-loop μ-loop
 returns-2 c = let d = now (c .before .before .before .before .before .args .datagram) in
     let l = c .before .before .before .loop in
     sym (l .inv ∙ ap endOf (chain-past d (l .cursor) (sym (c .before .before .step .ensures) ∙ c .enum-told2 .given .1)))
 
--- src/extension.rt:107:28
 enum-known-next : tie.Need-enum-known-next Inv-loop μ-loop
 enum-known-next c = search needs
 
--- src/extension.rt:103:5
 loop-less : tie.Need-loop-less Inv-loop μ-loop
 loop-less c = let d = now (c .before .before .before .before .before .before .args .datagram) in
     let l = c .before .before .before .before .loop in
     omega (arith, found-forward d (l .cursor) _ _ (sym (c .before .before .before .step .ensures) ∙ c .before .next .given .1))
 
--- src/extension.rt:103:5
 loop-again : tie.Need-loop-again Inv-loop μ-loop
 loop-again c = let d = now (c .before .before .before .before .before .before .args .datagram) in
     let l = c .before .before .before .before .loop in

@@ -12,10 +12,6 @@ use lib.ListN.{length}
 use Rattle.packet.specs.Chain.{readOf, chainFrom}
 use Rattle.packet.proofs.extension.read_chain.Statement.{statement}
 use Rattle.packet.proofs.extension.read_chain.Tie as tie
-use Rattle.packet.proofs.extension.read_chain.Reads as reads
-use Rattle.packet.proofs.extension.read_chain.Lts as lts
-use Rattle.packet.proofs.extension.Cursor.step.Reads as step-reads
-use Rattle.packet.proofs.extension.chain_end.Reads as chain-end-reads
 
 abbrev Inv-loop : tie.InvT-loop
 Inv-loop datagram cursor₀ cursor = readOf (chainFrom datagram cursor₀) ≡ readOf (chainFrom datagram cursor)
@@ -23,51 +19,40 @@ Inv-loop datagram cursor₀ cursor = readOf (chainFrom datagram cursor₀) ≡ r
 abbrev μ-loop : tie.MeasureT-loop
 μ-loop datagram cursor₀ cursor = length datagram + 1 - cursor .at
 
--- src/extension.rt:117:5
 loop-holds : tie.Need-loop-holds Inv-loop μ-loop
 loop-holds c = refl
 
--- src/extension.rt:118:15
 step-requires : tie.Need-step-requires Inv-loop μ-loop
 step-requires c κs = search needs
 
--- src/extension.rt:119:27
 enum-told : tie.Need-enum-told Inv-loop μ-loop
 enum-told c = search needs
 
--- src/extension.rt:119:27
 returns : tie.Need-returns Inv-loop μ-loop
 returns c = let d = now (c .before .before .before .before .before .args .datagram) in
     let l = c .before .before .before .loop in
     sym (l .inv ∙ ap readOf (chain-ends d (l .cursor) (sym (c .before .before .step .ensures) ∙ c .enum-told .given .1)))
 
--- src/extension.rt:120:31
 enum-told-2 : tie.Need-enum-told-2 Inv-loop μ-loop
 enum-told-2 c = search needs
 
--- src/extension.rt:120:31
 returns-2 : tie.Need-returns-2 Inv-loop μ-loop
 returns-2 c = let d = now (c .before .before .before .before .before .args .datagram) in
     let l = c .before .before .before .loop in
     sym (l .inv ∙ ap readOf (chain-past d (l .cursor) (sym (c .before .before .step .ensures) ∙ c .enum-told2 .given .1)))
 
--- src/extension.rt:121:25
 enum-known-extension : tie.Need-enum-known-extension Inv-loop μ-loop
 enum-known-extension c = search needs
 
--- src/extension.rt:124:34
 chain-end-requires : tie.Need-chain-end-requires Inv-loop μ-loop
 chain-end-requires c κs = search needs
 
--- src/extension.rt:125:41
 enum-told-3 : tie.Need-enum-told-3 Inv-loop μ-loop
 enum-told-3 c = search needs
 
--- src/extension.rt:126:33
 enum-known-at : tie.Need-enum-known-at Inv-loop μ-loop
 enum-known-at c = search needs
 
--- src/extension.rt:124:21
 returns-3 : tie.Need-returns-3 Inv-loop μ-loop
 returns-3 c = let d = now (c .before .before .before .before .before .before .before .before .before .before .before .before .args .datagram) in
     let l = c .before .before .before .before .before .before .before .before .before .before .loop in
@@ -78,7 +63,6 @@ returns-3 c = let d = now (c .before .before .before .before .before .before .be
     ∙ (ap readOf (chain-found d (l .cursor) _ _ (sym (c .before .before .before .before .before .before .before .before .before .step .ensures) ∙ found .1))
     ∙ read-past (found .0 .0) next (sym (c .before .before .chain-end .ensures) ∙ c .enum-told3 .given .1)))
 
--- src/extension.rt:124:21
 returns-4 : tie.Need-returns-4 Inv-loop μ-loop
 returns-4 c = let d = now (c .before .before .before .before .before .before .before .before .before .before .before .before .before .args .datagram) in
     let l = c .before .before .before .before .before .before .before .before .before .before .before .loop in
@@ -90,13 +74,11 @@ returns-4 c = let d = now (c .before .before .before .before .before .before .be
     ∙ (ap readOf (chain-found d (l .cursor) _ _ (sym (c .before .before .before .before .before .before .before .before .before .before .step .ensures) ∙ found .1))
     ∙ read-sack (found .0 .0) (end .0 .0) next (eq-eqb _ _ (c .before .before .before .before .before .if1 .taken)) (sym (c .before .before .before .chain-end .ensures) ∙ end .1)))
 
--- src/extension.rt:117:5
 loop-less : tie.Need-loop-less Inv-loop μ-loop
 loop-less c = let d = now (c .before .before .before .before .before .before .before .before .args .datagram) in
     let l = c .before .before .before .before .before .before .loop in
     omega (arith, found-forward d (l .cursor) _ _ (sym (c .before .before .before .before .before .step .ensures) ∙ c .before .before .before .extension .given .1))
 
--- src/extension.rt:117:5
 loop-again : tie.Need-loop-again Inv-loop μ-loop
 loop-again c = let d = now (c .before .before .before .before .before .before .before .before .args .datagram) in
     let l = c .before .before .before .before .before .before .loop in

@@ -2,46 +2,34 @@
 use borrow.Author.Needs.{needs}
 use Rattle.packet.proofs.header.is_empty_data.Statement.{statement}
 use Rattle.packet.proofs.header.is_empty_data.Tie as tie
-use Rattle.packet.proofs.header.is_empty_data.Reads as reads
-use Rattle.packet.proofs.header.is_empty_data.Lts as lts
 
--- src/header.rt:79:29
 enum-told : tie.Need-enum-told
 enum-told c = search needs
 
--- src/header.rt:80:28
 enum-told-2 : tie.Need-enum-told-2
 enum-told-2 c = search needs
 
--- src/header.rt:81:30
 enum-told-3 : tie.Need-enum-told-3
 enum-told-3 c = search needs
 
--- src/header.rt:82:30
 enum-told-4 : tie.Need-enum-told-4
 enum-told-4 c = search needs
 
--- src/header.rt:83:28
 enum-told-5 : tie.Need-enum-told-5
 enum-told-5 c = search needs
 
--- src/header.rt:74:1
 returns : tie.Need-returns
 returns c = simp (c .enum-told .given .1)
 
--- src/header.rt:74:1
 returns-2 : tie.Need-returns-2
 returns-2 c = simp (c .enum-told2 .given .1)
 
--- src/header.rt:74:1
 returns-3 : tie.Need-returns-3
 returns-3 c = simp (c .enum-told3 .given .1)
 
--- src/header.rt:74:1
 returns-4 : tie.Need-returns-4
 returns-4 c = simp (c .enum-told4 .given .1)
 
--- src/header.rt:74:1
 returns-5 : tie.Need-returns-5
 returns-5 c = simp (c .enum-told5 .given .1)
 

@@ -1,58 +1,42 @@
 -- `put_header` meets its contract: the fields are written one behind another, each at the sum of the widths before it.
 use Prim.Native.Nat.{ℕ, _+_, _*_}
 use mathlib.Core.Path.{_∙_, ap}
-use Rattle.packet.specs.Laws.Layout.{type-small, header-put}
+use Rattle.wire.specs.Laws.Kind.{type-small}
+use Rattle.packet.specs.Laws.Layout.{header-put}
 use borrow.Author.Needs.{needs}
 use Rattle.packet.proofs.header.put_header.Statement.{statement}
 use Rattle.packet.proofs.header.put_header.Tie as tie
-use Rattle.packet.proofs.header.put_header.Reads as reads
-use Rattle.packet.proofs.header.put_header.Lts as lts
-use Rattle.packet.proofs.header.PacketType.number.Reads as number-reads
-use Rattle.packet.proofs.header.front.Reads as front-reads
-use Rattle.packet.proofs.number.put16.Reads as put16-reads
-use Rattle.packet.proofs.number.put32.Reads as put32-reads
 
--- src/header.rt:118:26
 number-requires : tie.Need-number-requires
 number-requires c κs = search needs
 
--- src/header.rt:118:20
 front-requires : tie.Need-front-requires
 front-requires c κs = rw (c .number .ensures) (type-small (c .before .before .before .args .header .«packet_type»))
 
--- src/header.rt:118:5
 put16-requires : tie.Need-put16-requires
 put16-requires c κs = search needs
 
--- src/header.rt:119:5
 put16-requires-2 : tie.Need-put16-requires-2
 put16-requires-2 c κs = search needs
 
--- src/header.rt:120:5
 put32-requires : tie.Need-put32-requires
 put32-requires c κs = search needs
 
--- src/header.rt:121:5
 put32-requires-2 : tie.Need-put32-requires-2
 put32-requires-2 c κs = search needs
 
--- src/header.rt:122:5
 put32-requires-3 : tie.Need-put32-requires-3
 put32-requires-3 c κs = search needs
 
--- src/header.rt:123:5
 put16-requires-3 : tie.Need-put16-requires-3
 put16-requires-3 c κs = search needs
 
--- src/header.rt:124:5
 put16-requires-4 : tie.Need-put16-requires-4
 put16-requires-4 c κs = search needs
 
--- src/header.rt:113:1
 same-length : tie.Need-same-length
 same-length c = search needs
 
--- src/header.rt:113:1
 returns : tie.Need-returns
 returns c =
     header-put

@@ -3,36 +3,25 @@ use Rattle.packet.specs.Laws.Layout.{header-fields}
 use borrow.Author.Needs.{needs}
 use Rattle.packet.proofs.header.read_header.Statement.{statement}
 use Rattle.packet.proofs.header.read_header.Tie as tie
-use Rattle.packet.proofs.header.read_header.Reads as reads
-use Rattle.packet.proofs.header.read_header.Lts as lts
-use Rattle.packet.proofs.number.read16.Reads as read16-reads
-use Rattle.packet.proofs.number.read32.Reads as read32-reads
 
--- src/header.rt:94:18
 read16-requires : tie.Need-read16-requires
 read16-requires c κs = search needs
 
--- src/header.rt:95:20
 read32-requires : tie.Need-read32-requires
 read32-requires c κs = search needs
 
--- src/header.rt:96:25
 read32-requires-2 : tie.Need-read32-requires-2
 read32-requires-2 c κs = search needs
 
--- src/header.rt:97:22
 read32-requires-3 : tie.Need-read32-requires-3
 read32-requires-3 c κs = search needs
 
--- src/header.rt:98:25
 read16-requires-2 : tie.Need-read16-requires-2
 read16-requires-2 c κs = search needs
 
--- src/header.rt:99:25
 read16-requires-3 : tie.Need-read16-requires-3
 read16-requires-3 c κs = search needs
 
--- src/header.rt:88:1
 returns : tie.Need-returns
 returns c = simp (
   c .before .before .before .before .before .read16 .ensures,

@@ -10,35 +10,25 @@ use Rattle.packet.specs.Laws.Number.{bytes-four}
 use borrow.Author.Needs.{needs}
 use Rattle.packet.proofs.number.put32.Statement.{statement}
 use Rattle.packet.proofs.number.put32.Tie as tie
-use Rattle.packet.proofs.number.put32.Reads as reads
-use Rattle.packet.proofs.number.put32.Lts as lts
-use Rattle.packet.proofs.number.put16.Reads as put16-reads
 
--- src/number.rt:46:21
 cast-put16 : tie.Need-cast-put16
 cast-put16 c = search needs
 
--- src/number.rt:46:5
 put16-requires : tie.Need-put16-requires
 put16-requires c κs = search needs
 
--- src/number.rt:47:17
 add-put16 : tie.Need-add-put16
 add-put16 c = search needs
 
--- src/number.rt:47:25
 cast-put16-2 : tie.Need-cast-put16-2
 cast-put16-2 c = search needs
 
--- src/number.rt:47:5
 put16-requires-2 : tie.Need-put16-requires-2
 put16-requires-2 c κs = search needs
 
--- src/number.rt:42:1
 same-length : tie.Need-same-length
 same-length c = search needs
 
--- src/number.rt:42:1
 returns : tie.Need-returns
 returns c = let a = c .before .before .before .before .before .before .before .before .before .args in
     let high = bytes 2 (a .n / 65536) in

@@ -12,8 +12,6 @@ use denote.Ref.{now}
 use Rattle.common.specs.Laws.Put.{put, put-more, put-none, length-put}
 use Rattle.packet.proofs.number.put_all.Statement.{statement}
 use Rattle.packet.proofs.number.put_all.Tie as tie
-use Rattle.packet.proofs.number.put_all.Reads as reads
-use Rattle.packet.proofs.number.put_all.Lts as lts
 
 abbrev Inv-loop : tie.InvT-loop
 Inv-loop room₀ at src i₀ room i = (i ≤ length src) × (at + length src ≤ length room₀) × (room ≡ put room₀ at (take i src))
@@ -21,46 +19,37 @@ Inv-loop room₀ at src i₀ room i = (i ≤ length src) × (at + length src ≤
 abbrev μ-loop : tie.MeasureT-loop
 μ-loop room₀ at src i₀ room i = length src - i
 
--- src/number.rt:56:5
 loop-holds : tie.Need-loop-holds Inv-loop μ-loop
 loop-holds c = (omega arith, c .pre, sym (put-none (now (c .args .room)) (c .args .at)))
 
--- src/number.rt:57:24
 shared-slice-read-room : tie.Need-shared-slice-read-room Inv-loop μ-loop
 shared-slice-read-room c = search needs
 
--- src/number.rt:57:14
 add-room : tie.Need-add-room Inv-loop μ-loop
 add-room c = search needs
 
--- src/number.rt:57:9
 slice-write-room : tie.Need-slice-write-room Inv-loop μ-loop
 slice-write-room c = let l = c .before .before .loop in
     let a = c .before .before .before .args in
     let long : length (l .room) ≡ length (now (a .room)) = ap length (l .inv .2) ∙ length-put (now (a .room)) (take (l .i) (now (a .src))) (a .at) (simp length-take (omega arith)) in
     omega arith
 
--- src/number.rt:58:9
 add-i : tie.Need-add-i Inv-loop μ-loop
 add-i c = search needs
 
--- src/number.rt:56:5
 loop-less : tie.Need-loop-less Inv-loop μ-loop
 loop-less c = search needs
 
--- src/number.rt:56:5
 loop-again : tie.Need-loop-again Inv-loop μ-loop
 loop-again c = let l = c .before .before .loop in
     let a = c .before .before .before .args in
     (omega arith, l .inv .1, ap (λ (t : List ℕ). set t (a .at + l .i) (getD (now (a .src)) (l .i) 0)) (l .inv .2) ∙ put-more (now (a .room)) (now (a .src)) (a .at) (l .i) 0 (l .inv .1) (omega arith))
 
--- src/number.rt:51:1
 same-length : tie.Need-same-length Inv-loop μ-loop
 same-length c = let l = c .before .loop in
     let a = c .before .before .args in
     ap length (l .inv .2) ∙ length-put (now (a .room)) (take (l .i) (now (a .src))) (a .at) (simp length-take (omega arith))
 
--- src/number.rt:51:1
 returns : tie.Need-returns Inv-loop μ-loop
 returns c = let l = c .before .loop in
     let a = c .before .before .args in

@@ -6,39 +6,28 @@ use Rattle.packet.specs.Laws.Number.{big-two}
 use borrow.Author.Needs.{needs}
 use Rattle.packet.proofs.number.read16.Statement.{statement}
 use Rattle.packet.proofs.number.read16.Tie as tie
-use Rattle.packet.proofs.number.read16.Reads as reads
-use Rattle.packet.proofs.number.read16.Lts as lts
-use Rattle.packet.proofs.number.wide16.Reads as wide16-reads
 
--- src/number.rt:24:12
 shared-slice-read-wide16 : tie.Need-shared-slice-read-wide16
 shared-slice-read-wide16 c = search needs
 
--- src/number.rt:24:5
 wide16-requires : tie.Need-wide16-requires
 wide16-requires c κs = search needs
 
--- src/number.rt:24:5
 mul-result : tie.Need-mul-result
 mul-result c = omega (arith, c .wide16 .ensures, c .before .shared-slice-known2 .given (c .before .before .before .args .at))
 
--- src/number.rt:24:36
 add-wide16 : tie.Need-add-wide16
 add-wide16 c = search needs
 
--- src/number.rt:24:34
 shared-slice-read-wide16-2 : tie.Need-shared-slice-read-wide16-2
 shared-slice-read-wide16-2 c = search needs
 
--- src/number.rt:24:27
 wide16-requires-2 : tie.Need-wide16-requires-2
 wide16-requires-2 c κs = search needs
 
--- src/number.rt:24:5
 add-result : tie.Need-add-result
 add-result c = omega (arith, c .before .before .wide16 .ensures, c .wide162 .ensures, c .before .shared-slice-known3 .given (c .before .before .before .before .before .args .at), c .before .shared-slice-known3 .given (c .before .before .before .before .before .args .at + 1))
 
--- src/number.rt:20:1
 returns : tie.Need-returns
 returns c = let a = c .before .before .before .before .before .args in
     omega (arith, c .before .before .wide16 .ensures, c .wide162 .ensures, big-two (now (a .s)) (a .at) (c .before .before .before .before .before .pre))

@@ -5,40 +5,28 @@ use Rattle.packet.specs.Laws.Number.{big-four}
 use borrow.Author.Needs.{needs}
 use Rattle.packet.proofs.number.read32.Statement.{statement}
 use Rattle.packet.proofs.number.read32.Tie as tie
-use Rattle.packet.proofs.number.read32.Reads as reads
-use Rattle.packet.proofs.number.read32.Lts as lts
-use Rattle.packet.proofs.number.read16.Reads as read16-reads
-use Rattle.packet.proofs.number.wide32.Reads as wide32-reads
 
--- src/number.rt:31:12
 read16-requires : tie.Need-read16-requires
 read16-requires c κs = search needs
 
--- src/number.rt:31:5
 wide32-requires : tie.Need-wide32-requires
 wide32-requires c κs = search needs
 
--- src/number.rt:31:5
 mul-result : tie.Need-mul-result
 mul-result c = search needs
 
--- src/number.rt:31:54
 add-read16 : tie.Need-add-read16
 add-read16 c = search needs
 
--- src/number.rt:31:44
 read16-requires-2 : tie.Need-read16-requires-2
 read16-requires-2 c κs = search needs
 
--- src/number.rt:31:37
 wide32-requires-2 : tie.Need-wide32-requires-2
 wide32-requires-2 c κs = search needs
 
--- src/number.rt:31:5
 add-result : tie.Need-add-result
 add-result c = search needs
 
--- src/number.rt:27:1
 returns : tie.Need-returns
 returns c = let a = c .before .before .before .before .before .args in
     omega (

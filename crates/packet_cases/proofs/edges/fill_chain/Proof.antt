@@ -1,4 +1,4 @@
--- `fill_chain` is safe and ends. The datagram keeps its length. The measure is the number of turns that are left.
+-- `fill_chain` is safe and ends. The datagram keeps its length. The measure is what is left of it.
 use Prim.Native.Nat.{_-_, _≤_}
 use borrow.Author.Needs.{needs}
 use lib.ListN.{length}
@@ -7,28 +7,19 @@ use Rattle.packet_cases.proofs.edges.fill_chain.Statement.{statement}
 use Rattle.packet_cases.proofs.edges.fill_chain.Tie as tie
 
 abbrev Inv-loop : tie.InvT-loop
-Inv-loop datagram₀ i₀ datagram i = (i ≤ 65535) × (length datagram ≡ length datagram₀)
+Inv-loop datagram₀ end i₀ datagram i = (i ≤ length datagram₀) × (length datagram ≡ length datagram₀)
 
 abbrev μ-loop : tie.MeasureT-loop
-μ-loop datagram₀ i₀ datagram i = 65535 - i
-
-store-requires : tie.Need-store-requires Inv-loop μ-loop
-store-requires c κs = search needs
-
-store-requires-2 : tie.Need-store-requires-2 Inv-loop μ-loop
-store-requires-2 c κs = search needs
+μ-loop datagram₀ end i₀ datagram i = length datagram₀ - i
 
 loop-holds : tie.Need-loop-holds Inv-loop μ-loop
 loop-holds c = search needs
 
-cast-store : tie.Need-cast-store Inv-loop μ-loop
-cast-store c = search needs
+chain-byte-requires : tie.Need-chain-byte-requires Inv-loop μ-loop
+chain-byte-requires c κs = search needs
 
-sub-store : tie.Need-sub-store Inv-loop μ-loop
-sub-store c = search needs
-
-store-requires-3 : tie.Need-store-requires-3 Inv-loop μ-loop
-store-requires-3 c κs = search needs
+slice-write-datagram : tie.Need-slice-write-datagram Inv-loop μ-loop
+slice-write-datagram c = search needs
 
 add-i : tie.Need-add-i Inv-loop μ-loop
 add-i c = search needs
@@ -51,12 +42,9 @@ fill-chain-spec =
     (tie.spec
     Inv-loop
     μ-loop
-    store-requires
-    store-requires-2
     loop-holds
-    cast-store
-    sub-store
-    store-requires-3
+    chain-byte-requires
+    slice-write-datagram
     add-i
     loop-less
     loop-again

@@ -1,4 +1,4 @@
--- `replay_all` is safe and ends. The slices keep their lengths. The measure is the number of turns that are left.
+-- `replay_all` is safe and ends. The buffer keeps its length. The measure is the number of turns that are left.
 use Prim.Native.Nat.{_-_, _≤_}
 use borrow.Author.Needs.{needs}
 use lib.ListN.{length}
@@ -7,37 +7,34 @@ use Rattle.packet_cases.proofs.encode_list.replay_all.Statement.{statem
 use Rattle.packet_cases.proofs.encode_list.replay_all.Tie as tie
 
 abbrev Inv-loop : tie.InvT-loop
-Inv-loop fd window₀ sack₀ payload₀ buffer₀ turn₀ counter₀ window sack payload buffer turn counter = (counter ≤ 18446744073709551615) × (length window ≡ length window₀) × (length sack ≡ length sack₀) × (length payload ≡ length payload₀) × (length buffer ≡ length buffer₀)
+Inv-loop list buffer₀ tally₀ at₀ counter₀ buffer tally at counter = (counter ≤ 18446744073709551615) × (length buffer ≡ length buffer₀)
 
 abbrev μ-loop : tie.MeasureT-loop
-μ-loop fd window₀ sack₀ payload₀ buffer₀ turn₀ counter₀ window sack payload buffer turn counter = 18446744073709551615 - counter
+μ-loop list buffer₀ tally₀ at₀ counter₀ buffer tally at counter = 18446744073709551615 - counter
 
 new-requires : tie.Need-new-requires Inv-loop μ-loop
 new-requires c κs = search needs
 
-new-requires-2 : tie.Need-new-requires-2 Inv-loop μ-loop
-new-requires-2 c κs = search needs
-
 loop-holds : tie.Need-loop-holds Inv-loop μ-loop
 loop-holds c = search needs
-
-replay-next-requires : tie.Need-replay-next-requires Inv-loop μ-loop
-replay-next-requires c κs = search needs
 
 same-length : tie.Need-same-length Inv-loop μ-loop
 same-length c = search needs
 
-same-length-2 : tie.Need-same-length-2 Inv-loop μ-loop
-same-length-2 c = search needs
-
-same-length-3 : tie.Need-same-length-3 Inv-loop μ-loop
-same-length-3 c = search needs
-
-same-length-4 : tie.Need-same-length-4 Inv-loop μ-loop
-same-length-4 c = search needs
-
 returns : tie.Need-returns Inv-loop μ-loop
 returns c = search needs
+
+behind-requires : tie.Need-behind-requires Inv-loop μ-loop
+behind-requires c κs = search needs
+
+counted-requires : tie.Need-counted-requires Inv-loop μ-loop
+counted-requires c κs = search needs
+
+size-of-requires : tie.Need-size-of-requires Inv-loop μ-loop
+size-of-requires c κs = search needs
+
+wrapping-add-usize-requires : tie.Need-wrapping-add-usize-requires Inv-loop μ-loop
+wrapping-add-usize-requires c κs = search needs
 
 add-counter : tie.Need-add-counter Inv-loop μ-loop
 add-counter c = search needs
@@ -48,17 +45,8 @@ loop-less c = search needs
 loop-again : tie.Need-loop-again Inv-loop μ-loop
 loop-again c = search needs
 
-same-length-5 : tie.Need-same-length-5 Inv-loop μ-loop
-same-length-5 c = search needs
-
-same-length-6 : tie.Need-same-length-6 Inv-loop μ-loop
-same-length-6 c = search needs
-
-same-length-7 : tie.Need-same-length-7 Inv-loop μ-loop
-same-length-7 c = search needs
-
-same-length-8 : tie.Need-same-length-8 Inv-loop μ-loop
-same-length-8 c = search needs
+same-length-2 : tie.Need-same-length-2 Inv-loop μ-loop
+same-length-2 c = search needs
 
 returns-2 : tie.Need-returns-2 Inv-loop μ-loop
 returns-2 c = search needs
@@ -70,19 +58,15 @@ replay-all-spec =
     Inv-loop
     μ-loop
     new-requires
-    new-requires-2
     loop-holds
-    replay-next-requires
     same-length
-    same-length-2
-    same-length-3
-    same-length-4
     returns
+    behind-requires
+    counted-requires
+    size-of-requires
+    wrapping-add-usize-requires
     add-counter
     loop-less
     loop-again
-    same-length-5
-    same-length-6
-    same-length-7
-    same-length-8
+    same-length-2
     returns-2)

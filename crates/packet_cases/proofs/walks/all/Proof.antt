@@ -28,8 +28,11 @@ next-seed-requires-2 c κs = search needs
 next-seed-requires-3 : tie.Need-next-seed-requires-3 Inv-loop μ-loop
 next-seed-requires-3 c κs = search needs
 
-triple-requires : tie.Need-triple-requires Inv-loop μ-loop
-triple-requires c κs = search needs
+is-drawn-right-requires : tie.Need-is-drawn-right-requires Inv-loop μ-loop
+is-drawn-right-requires c κs = search needs
+
+counted-requires : tie.Need-counted-requires Inv-loop μ-loop
+counted-requires c κs = search needs
 
 add-i : tie.Need-add-i Inv-loop μ-loop
 add-i c = search needs
@@ -55,7 +58,8 @@ all-spec =
     next-seed-requires
     next-seed-requires-2
     next-seed-requires-3
-    triple-requires
+    is-drawn-right-requires
+    counted-requires
     add-i
     loop-less
     loop-again

@@ -5,25 +5,25 @@ use Rattle.packet_cases.proofs.walks.walked.Statement.{statement}
 use Rattle.packet_cases.proofs.walks.walked.Tie as tie
 
 abbrev Inv-loop : tie.InvT-loop
-Inv-loop item walk₀ counter₀ walk counter = counter ≤ 65537
+Inv-loop start length item walk₀ i₀ walk i = i ≤ length
 
 abbrev μ-loop : tie.MeasureT-loop
-μ-loop item walk₀ counter₀ walk counter = 65537 - counter
-
-new-requires : tie.Need-new-requires Inv-loop μ-loop
-new-requires c κs = search needs
+μ-loop start length item walk₀ i₀ walk i = length - i
 
 loop-holds : tie.Need-loop-holds Inv-loop μ-loop
 loop-holds c = search needs
 
+cast-wrapping-add-u16 : tie.Need-cast-wrapping-add-u16 Inv-loop μ-loop
+cast-wrapping-add-u16 c = search needs
+
+wrapping-add-u16-requires : tie.Need-wrapping-add-u16-requires Inv-loop μ-loop
+wrapping-add-u16-requires c κs = search needs
+
 step-requires : tie.Need-step-requires Inv-loop μ-loop
 step-requires c κs = search needs
 
-returns : tie.Need-returns Inv-loop μ-loop
-returns c = search needs
-
-add-counter : tie.Need-add-counter Inv-loop μ-loop
-add-counter c = search needs
+add-i : tie.Need-add-i Inv-loop μ-loop
+add-i c = search needs
 
 loop-less : tie.Need-loop-less Inv-loop μ-loop
 loop-less c = search needs
@@ -31,8 +31,8 @@ loop-less c = search needs
 loop-again : tie.Need-loop-again Inv-loop μ-loop
 loop-again c = search needs
 
-returns-2 : tie.Need-returns-2 Inv-loop μ-loop
-returns-2 c = search needs
+returns : tie.Need-returns Inv-loop μ-loop
+returns c = search needs
 
 pub walked-spec : {M : Type 1} → statement M
 walked-spec =
@@ -40,11 +40,11 @@ walked-spec =
     (tie.spec
     Inv-loop
     μ-loop
-    new-requires
     loop-holds
+    cast-wrapping-add-u16
+    wrapping-add-u16-requires
     step-requires
-    returns
-    add-counter
+    add-i
     loop-less
     loop-again
-    returns-2)
+    returns)

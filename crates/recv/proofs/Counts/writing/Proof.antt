@@ -5,8 +5,8 @@ use mathlib.Core.Path.{_≡_, sym, ap, _∙_}
 use native.Mathlib.Omega.{arith}
 use borrow.Author.Needs.{needs}
 use borrow.Author.Tests.{not-true, not-false}
-use Rattle.packet.specs.Seq.{offsetOf}
-use Rattle.packet.specs.declared.seq.Offset.{Offset}
+use Rattle.wire.specs.Seq.{offsetOf}
+use Rattle.wire.specs.declared.seq.Offset.{Offset}
 use Rattle.recv.specs.Lent.{whole}
 use Rattle.recv.specs.Table.{thereOf}
 use Rattle.recv.specs.State.{soundOf, tableOf}

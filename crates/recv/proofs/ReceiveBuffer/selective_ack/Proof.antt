@@ -47,11 +47,8 @@ returns-2 c =
     let short : length (a .room .now) < length (sackOf (tableOf (a .t1))) = omega (arith, size, c .if2 .taken) in
     (small-acked (a .t1) (a .room .now) (sound-at (c .before .before)) short, small-acked-room (a .t1) (a .room .now) (sound-at (c .before .before)) short)
 
-cast-plus : tie.Need-cast-plus
-cast-plus c = search needs
-
-plus-requires : tie.Need-plus-requires
-plus-requires c κs = search needs
+at-requires : tie.Need-at-requires
+at-requires c κs = search needs
 
 fill-requires : tie.Need-fill-requires
 fill-requires c κs =
@@ -77,8 +74,7 @@ selective-ack-spec =
     cast-span
     length-for-requires
     returns-2
-    cast-plus
-    plus-requires
+    at-requires
     fill-requires
     same-length
     returns-3)

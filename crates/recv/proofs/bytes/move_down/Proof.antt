@@ -9,7 +9,6 @@ use lib.Seq.{paste, paste-zero}
 use Rattle.recv.specs.Laws.Moves.{paste-down}
 use Rattle.recv.proofs.bytes.move_down.Statement.{statement}
 use Rattle.recv.proofs.bytes.move_down.Tie as tie
-use Rattle.recv.proofs.bytes.move_down.Reads as reads
 
 abbrev Inv-loop : tie.InvT-loop
 Inv-loop buf₀ from count done₀ buf done = (done ≤ count) × (buf ≡ paste buf₀ 0 (drop from buf₀) done) × (length buf ≡ length buf₀)

@@ -9,7 +9,6 @@ use lib.Seq.{paste, paste-zero}
 use Rattle.recv.specs.Laws.Moves.{paste-up, paste-at}
 use Rattle.recv.proofs.bytes.move_up.Statement.{statement}
 use Rattle.recv.proofs.bytes.move_up.Tie as tie
-use Rattle.recv.proofs.bytes.move_up.Reads as reads
 
 abbrev Inv-loop : tie.InvT-loop
 Inv-loop buf₀ from count by left₀ buf left = (left ≤ count) × (buf ≡ paste buf₀ (from + by + left) (drop (from + left) buf₀) (count - left)) × (length buf ≡ length buf₀)

@@ -3,10 +3,10 @@ use mathlib.Core.Path.{_≡_, ap, _∙_}
 use Prim.Native.Nat.{_+_}
 use native.Mathlib.Omega.{arith}
 use borrow.Author.Needs.{needs}
-use Rattle.packet.specs.Seq.{offsetOf}
-use Rattle.packet.specs.Laws.Seq.{offset-of-plus}
-use Rattle.packet.specs.declared.seq.Offset.{Offset}
-use Rattle.packet.specs.declared.seq.SeqNum.{SeqNum}
+use Rattle.wire.specs.Seq.{offsetOf}
+use Rattle.wire.specs.Laws.Seq.{offset-of-plus}
+use Rattle.wire.specs.declared.seq.Offset.{Offset}
+use Rattle.wire.specs.declared.seq.SeqNum.{SeqNum}
 use Rattle.recv.proofs.sack.place_of.Statement.{statement}
 use Rattle.recv.proofs.sack.place_of.Tie as tie
 

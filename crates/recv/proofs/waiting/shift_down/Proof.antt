@@ -9,7 +9,6 @@ use lib.Seq.{paste, paste-zero}
 use Rattle.recv.specs.Laws.Moves.{paste-down}
 use Rattle.recv.proofs.waiting.shift_down.Statement.{statement}
 use Rattle.recv.proofs.waiting.shift_down.Tie as tie
-use Rattle.recv.proofs.waiting.shift_down.Reads as reads
 
 abbrev Inv-loop : tie.InvT-loop
 Inv-loop waiting₀ from count done₀ waiting done = (done ≤ count) × (waiting ≡ paste waiting₀ 0 (drop from waiting₀) done)

@@ -7,10 +7,10 @@ use Rattle.recv_cases.proofs.event.write_run.Statement.{statement}
 use Rattle.recv_cases.proofs.event.write_run.Tie as tie
 
 abbrev Inv-loop : tie.InvT-loop
-Inv-loop buf₀ count next₀ counter₀ buf next counter = (counter ≤ count) × (length buf ≡ length buf₀)
+Inv-loop buf₀ count step₀ counter₀ buf step counter = (counter ≤ count) × (length buf ≡ length buf₀)
 
 abbrev μ-loop : tie.MeasureT-loop
-μ-loop buf₀ count next₀ counter₀ buf next counter = count - counter
+μ-loop buf₀ count step₀ counter₀ buf step counter = count - counter
 
 loop-holds : tie.Need-loop-holds Inv-loop μ-loop
 loop-holds c = search needs

@@ -7,16 +7,19 @@ use Rattle.recv_cases.proofs.session.all_events.Statement.{statement}
 use Rattle.recv_cases.proofs.session.all_events.Tie as tie
 
 abbrev Inv-loop : tie.InvT-loop
-Inv-loop window₀ buf₀ out₀ count run₀ counter₀ window buf out run counter = (counter ≤ count) × (length window ≡ length window₀) × (length buf ≡ length buf₀) × (length out ≡ length out₀)
+Inv-loop list kind buf₀ out₀ count state₀ stand₀ counter₀ buf out state stand counter = (counter ≤ count) × (length buf ≡ length buf₀) × (length out ≡ length out₀)
 
 abbrev μ-loop : tie.MeasureT-loop
-μ-loop window₀ buf₀ out₀ count run₀ counter₀ window buf out run counter = count - counter
+μ-loop list kind buf₀ out₀ count state₀ stand₀ counter₀ buf out state stand counter = count - counter
 
 loop-holds : tie.Need-loop-holds Inv-loop μ-loop
 loop-holds c = search needs
 
-one-event-requires : tie.Need-one-event-requires Inv-loop μ-loop
-one-event-requires c κs = search needs
+compare-at-requires : tie.Need-compare-at-requires Inv-loop μ-loop
+compare-at-requires c κs = search needs
+
+behind-event-requires : tie.Need-behind-event-requires Inv-loop μ-loop
+behind-event-requires c κs = search needs
 
 add-counter : tie.Need-add-counter Inv-loop μ-loop
 add-counter c = search needs
@@ -33,9 +36,6 @@ same-length c = search needs
 same-length-2 : tie.Need-same-length-2 Inv-loop μ-loop
 same-length-2 c = search needs
 
-same-length-3 : tie.Need-same-length-3 Inv-loop μ-loop
-same-length-3 c = search needs
-
 returns : tie.Need-returns Inv-loop μ-loop
 returns c = search needs
 
@@ -46,11 +46,11 @@ all-events-spec =
     Inv-loop
     μ-loop
     loop-holds
-    one-event-requires
+    compare-at-requires
+    behind-event-requires
     add-counter
     loop-less
     loop-again
     same-length
     same-length-2
-    same-length-3
     returns)

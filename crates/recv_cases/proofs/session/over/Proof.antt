@@ -1,4 +1,4 @@
--- `over` is safe: what is lent of the buffer lies within it.
+-- `over` is safe: what is lent lies within the buffer.
 use lib.Seq.{length-take-le}
 use mathlib.Core.Path.{sym}
 use native.Mathlib.Omega.{arith}
@@ -21,9 +21,6 @@ same-length c = search needs
 same-length-2 : tie.Need-same-length-2
 same-length-2 c = search needs
 
-same-length-3 : tie.Need-same-length-3
-same-length-3 c = search needs
-
 returns : tie.Need-returns
 returns c = search needs
 
@@ -39,6 +36,5 @@ over-spec =
     all-events-requires
     same-length
     same-length-2
-    same-length-3
     returns
     returns-2)

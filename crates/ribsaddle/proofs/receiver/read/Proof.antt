@@ -3,7 +3,7 @@ use mathlib.Core.Path.{_∙_, ap}
 use Prim.Native.Nat.{ℕ}
 use Rattle.recv.specs.declared.Taken.{Taken}
 use Rattle.ribsaddle.specs.declared.receiver.Counting.{Counting}
-use Rattle.ribsaddle.specs.declared.receiver.Counts.{Counts}
+use Rattle.recv.specs.declared.Counts.{Counts}
 use Rattle.ribsaddle.specs.Answer.{valueOr}
 use Rattle.ribsaddle.specs.Parts.{countingOf}
 use Rattle.ribsaddle.specs.Receiver.{countAnswer, takenAs, readOf, takenCountOf}
@@ -30,7 +30,7 @@ returns : tie.Need-returns
 unfolding readOf takenCountOf
 returns c = let e = c .before .before .before .before .before .before .read-in .ensures in
     let told = c .tell-count .ensures in
-    (ap (answered _) (told .0) ∙ ap (λ (t : Taken). countingOf (takenAs t)) (e .0), ap (λ (t : Taken). t .state .waiting) (e .0), e .1, e .2, told .1 ∙ ap (λ (t : Taken). valueOr (c .before .before .before .before .before .before .before .before .before .before .before .before .before .before .args .value .now) (countAnswer (t .answer))) (e .0))
+    (ap (answered _) (told .0) ∙ ap (λ (t : Taken). countingOf (takenAs t)) (e .0), ap (λ (t : Taken). t .state .waiting) (e .0), e .1, e .2, told .1 ∙ ap (λ (t : Taken). valueOr (c .before .before .before .before .before .before .before .before .before .before .before .before .args .value .now) (countAnswer (t .answer))) (e .0))
 
 pub read-spec : {M : Type 1} → statement M
 read-spec =

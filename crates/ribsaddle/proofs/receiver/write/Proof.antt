@@ -1,9 +1,9 @@
 -- `ribsaddle::receiver::write` meets its contract. The receiver's answer by its number, its counts, its table and the buffer.
 use mathlib.Core.Path.{_∙_, ap}
 use Prim.Native.Nat.{ℕ}
+use Rattle.recv.specs.declared.Counts.{Counts}
 use Rattle.recv.specs.declared.Written.{Written}
 use Rattle.ribsaddle.specs.declared.receiver.Counting.{Counting}
-use Rattle.ribsaddle.specs.declared.receiver.Counts.{Counts}
 use Rattle.ribsaddle.specs.Parts.{countingOf}
 use Rattle.ribsaddle.specs.Receiver.{writtenAs, writeOf}
 use borrow.Author.Needs.{needs}
@@ -24,7 +24,7 @@ same-length c = search needs
 
 returns : tie.Need-returns
 unfolding writeOf
-returns c = let e = c .before .before .before .write-in .ensures in
+returns c = let e = c .before .before .before .before .write-in .ensures in
     (ap (answered _) (c .of-stored .ensures) ∙ ap (λ (w : Written). countingOf (writtenAs w)) (e .0), ap (λ (w : Written). w .state .waiting) (e .0), e .1)
 
 pub write-spec : {M : Type 1} → statement M

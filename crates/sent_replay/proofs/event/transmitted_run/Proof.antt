@@ -1,8 +1,6 @@
 -- `transmitted_run` is safe and ends. The measure is the number of turns that are left.
-use Prim.Native.Nat.{_-_, _≤_}
+use Prim.Native.Nat.{_-_}
 use borrow.Author.Needs.{needs}
-use lib.ListN.{length}
-use mathlib.Core.Path.{_≡_}
 use Rattle.sent_replay.proofs.event.transmitted_run.Statement.{statement}
 use Rattle.sent_replay.proofs.event.transmitted_run.Tie as tie
 

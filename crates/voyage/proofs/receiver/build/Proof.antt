@@ -1,7 +1,6 @@
 -- The part that is lent has as many bytes as were asked for.
-use native.Mathlib.Omega.{arith}
 use borrow.Author.Needs.{needs}
-use lib.ListN.{length-take}
+use native.Mathlib.Omega.{arith}
 use lib.ListN.{length-take}
 use Rattle.voyage.proofs.receiver.build.Statement.{statement}
 use Rattle.voyage.proofs.receiver.build.Tie as tie
@@ -18,23 +17,8 @@ slice-aggregate-build-in c = simp length-take (omega arith)
 build-in-requires : tie.Need-build-in-requires
 build-in-requires c κs = search needs
 
-slice-aggregate-build-in-2 : tie.Need-slice-aggregate-build-in-2
-slice-aggregate-build-in-2 c = search needs
-
-build-in-requires-2 : tie.Need-build-in-requires-2
-build-in-requires-2 c κs = search needs
-
-same-length : tie.Need-same-length
-same-length c = search needs
-
 returns : tie.Need-returns
 returns c = search needs
-
-same-length-2 : tie.Need-same-length-2
-same-length-2 c = search needs
-
-returns-2 : tie.Need-returns-2
-returns-2 c = search needs
 
 pub build-spec : {M : Type 1} → statement M
 build-spec =
@@ -44,9 +28,4 @@ build-spec =
     array-borrow-prefix-room
     slice-aggregate-build-in
     build-in-requires
-    slice-aggregate-build-in-2
-    build-in-requires-2
-    same-length
-    returns
-    same-length-2
-    returns-2)
+    returns)

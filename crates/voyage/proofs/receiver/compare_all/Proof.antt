@@ -6,10 +6,10 @@ use Rattle.voyage.proofs.receiver.compare_all.Statement.{statement}
 use Rattle.voyage.proofs.receiver.compare_all.Tie as tie
 
 abbrev Inv-loop : tie.InvT-loop
-Inv-loop plan bytes here₀ i₀ here i = Unit {0}
+Inv-loop book₀ bytes i₀ book i = Unit {0}
 
 abbrev μ-loop : tie.MeasureT-loop
-μ-loop plan bytes here₀ i₀ here i = length bytes - i
+μ-loop book₀ bytes i₀ book i = length bytes - i
 
 loop-holds : tie.Need-loop-holds Inv-loop μ-loop
 loop-holds c = search needs

@@ -1,43 +1,41 @@
--- The sums keep their length over the stores.
-use Prim.Native.Nat.{_-_}
-use mathlib.Core.Path.{_≡_}
+-- Places below 64.
 use borrow.Author.Needs.{needs}
-use lib.ListN.{length}
+use Prim.Native.Nat.{_-_}
 use Rattle.voyage.proofs.run.add_all.Statement.{statement}
 use Rattle.voyage.proofs.run.add_all.Tie as tie
 
 abbrev Inv-loop : tie.InvT-loop
-Inv-loop more sums₀ answer₀ sums answer = length sums ≡ 32
+Inv-loop totals₀ book place₀ totals place = Unit {0}
 
 abbrev μ-loop : tie.MeasureT-loop
-μ-loop more sums₀ answer₀ sums answer = 32 - answer
+μ-loop totals₀ book place₀ totals place = 64 - place
 
 loop-holds : tie.Need-loop-holds Inv-loop μ-loop
 loop-holds c = search needs
 
-mul-plus : tie.Need-mul-plus Inv-loop μ-loop
-mul-plus c = search needs
+mul-wrapping-add-u64 : tie.Need-mul-wrapping-add-u64 Inv-loop μ-loop
+mul-wrapping-add-u64 c = search needs
 
-array-read-plus : tie.Need-array-read-plus Inv-loop μ-loop
-array-read-plus c = search needs
+element-copy-out-wrapping-add-u64 : tie.Need-element-copy-out-wrapping-add-u64 Inv-loop μ-loop
+element-copy-out-wrapping-add-u64 c = search needs
 
-mul-plus-2 : tie.Need-mul-plus-2 Inv-loop μ-loop
-mul-plus-2 c = search needs
+mul-wrapping-add-u64-2 : tie.Need-mul-wrapping-add-u64-2 Inv-loop μ-loop
+mul-wrapping-add-u64-2 c = search needs
 
-element-copy-out-plus : tie.Need-element-copy-out-plus Inv-loop μ-loop
-element-copy-out-plus c = search needs
+element-copy-out-wrapping-add-u64-2 : tie.Need-element-copy-out-wrapping-add-u64-2 Inv-loop μ-loop
+element-copy-out-wrapping-add-u64-2 c = search needs
 
-plus-requires : tie.Need-plus-requires Inv-loop μ-loop
-plus-requires c κs = search needs
+wrapping-add-u64-requires : tie.Need-wrapping-add-u64-requires Inv-loop μ-loop
+wrapping-add-u64-requires c κs = search needs
 
-mul-sums : tie.Need-mul-sums Inv-loop μ-loop
-mul-sums c = search needs
+mul-totals : tie.Need-mul-totals Inv-loop μ-loop
+mul-totals c = search needs
 
-array-write-sums : tie.Need-array-write-sums Inv-loop μ-loop
-array-write-sums c = search needs
+element-write-totals : tie.Need-element-write-totals Inv-loop μ-loop
+element-write-totals c = search needs
 
-add-answer : tie.Need-add-answer Inv-loop μ-loop
-add-answer c = search needs
+add-place : tie.Need-add-place Inv-loop μ-loop
+add-place c = search needs
 
 loop-less : tie.Need-loop-less Inv-loop μ-loop
 loop-less c = search needs
@@ -55,14 +53,14 @@ add-all-spec =
     Inv-loop
     μ-loop
     loop-holds
-    mul-plus
-    array-read-plus
-    mul-plus-2
-    element-copy-out-plus
-    plus-requires
-    mul-sums
-    array-write-sums
-    add-answer
+    mul-wrapping-add-u64
+    element-copy-out-wrapping-add-u64
+    mul-wrapping-add-u64-2
+    element-copy-out-wrapping-add-u64-2
+    wrapping-add-u64-requires
+    mul-totals
+    element-write-totals
+    add-place
     loop-less
     loop-again
     returns)

@@ -1,16 +1,19 @@
--- The two lent slices keep their lengths over the steps.
-use Prim.Native.Nat.{_-_}
+-- The lent slice keeps its length over the steps.
+use borrow.Author.Needs.{needs, fits-under}
+use Prim.Native.Nat.{ℕ, _+_, _-_, _<_}
+use native.Mathlib.Omega.{arith}
+use mir.Syntax.{w64}
+use mir.Val.{Fits}
 use mathlib.Core.Path.{_≡_, _∙_}
-use borrow.Author.Needs.{needs}
 use lib.ListN.{length}
 use Rattle.voyage.proofs.run.walk.Statement.{statement}
 use Rattle.voyage.proofs.run.walk.Tie as tie
 
 abbrev Inv-loop : tie.InvT-loop
-Inv-loop samples₀ times₀ sizes₀ marks₀ buf₀ memory₀ is-shown here₀ index₀ samples times sizes marks buf memory here index = (length buf ≡ length buf₀) × (length memory ≡ length memory₀)
+Inv-loop samples₀ times₀ sizes₀ marks₀ book₀ buf₀ memory₀ is-shown sender₀ receiver₀ index₀ samples times sizes marks book buf memory sender receiver index = length buf ≡ length buf₀
 
 abbrev μ-loop : tie.MeasureT-loop
-μ-loop samples₀ times₀ sizes₀ marks₀ buf₀ memory₀ is-shown here₀ index₀ samples times sizes marks buf memory here index = 60000 - index
+μ-loop samples₀ times₀ sizes₀ marks₀ book₀ buf₀ memory₀ is-shown sender₀ receiver₀ index₀ samples times sizes marks book buf memory sender receiver index = 60000 - index
 
 loop-holds : tie.Need-loop-holds Inv-loop μ-loop
 loop-holds c = search needs
@@ -18,41 +21,50 @@ loop-holds c = search needs
 is-done-requires : tie.Need-is-done-requires Inv-loop μ-loop
 is-done-requires c κs = search needs
 
-end-of-requires : tie.Need-end-of-requires Inv-loop μ-loop
-end-of-requires c κs = search needs
-
 same-length : tie.Need-same-length Inv-loop μ-loop
 same-length c = search needs
-
-same-length-2 : tie.Need-same-length-2 Inv-loop μ-loop
-same-length-2 c = search needs
 
 returns : tie.Need-returns Inv-loop μ-loop
 returns c = search needs
 
-stepped-requires : tie.Need-stepped-requires Inv-loop μ-loop
-stepped-requires c κs = search needs
+begin-requires : tie.Need-begin-requires Inv-loop μ-loop
+begin-requires c κs = search needs
+
+receive-requires : tie.Need-receive-requires Inv-loop μ-loop
+receive-requires c κs = search needs
+
+send-requires : tie.Need-send-requires Inv-loop μ-loop
+send-requires c κs = search needs
+
+show-requires : tie.Need-show-requires Inv-loop μ-loop
+show-requires c κs = search needs
+
+next-fits : (i : ℕ) → i < 60000 → Fits w64 (i + 1)
+next-fits i p = fits-under w64 (i + 1) 60001 (omega (arith, p)) tt
+
+next-less : (i : ℕ) → i < 60000 → 60000 - (i + 1) < 60000 - i
+next-less i p = omega (arith, p)
+
+-- What the loop's test says of its index.
+abbrev inside : (c : tie.After-show Inv-loop μ-loop) → tie.In-loop Inv-loop μ-loop
+inside c = c .before .before .before .before .before .before .before .before .before .before .before .before .before .before .before .before .before .before .before .before .before
 
 add-index : tie.Need-add-index Inv-loop μ-loop
-add-index c = search needs
+add-index c = next-fits _ (inside c .loop-test .taken)
 
 loop-less : tie.Need-loop-less Inv-loop μ-loop
-loop-less c = search needs
+loop-less c = next-less _ (inside c .loop-test .taken)
 
 loop-again : tie.Need-loop-again Inv-loop μ-loop
 loop-again c =
-    let kept = c .before .before .before .before .stepped .kept .1 .1 .1 .1 .1 .1 in
-    let inv = c .before .before .before .before .before .before .before .before .before .before .before .before .before .before .loop .inv in
-    (kept .0 ∙ inv .0, kept .1 .0 ∙ inv .1)
+    c .before .before .before .before .before .before .before .before .before .before .before .receive .kept .1 .1 .1 .0
+    ∙ inside c .before .loop .inv
 
-end-of-requires-2 : tie.Need-end-of-requires-2 Inv-loop μ-loop
-end-of-requires-2 c κs = search needs
+is-done-requires-2 : tie.Need-is-done-requires-2 Inv-loop μ-loop
+is-done-requires-2 c κs = search needs
 
-same-length-3 : tie.Need-same-length-3 Inv-loop μ-loop
-same-length-3 c = search needs
-
-same-length-4 : tie.Need-same-length-4 Inv-loop μ-loop
-same-length-4 c = search needs
+same-length-2 : tie.Need-same-length-2 Inv-loop μ-loop
+same-length-2 c = search needs
 
 returns-2 : tie.Need-returns-2 Inv-loop μ-loop
 returns-2 c = search needs
@@ -65,15 +77,15 @@ walk-spec =
     μ-loop
     loop-holds
     is-done-requires
-    end-of-requires
     same-length
-    same-length-2
     returns
-    stepped-requires
+    begin-requires
+    receive-requires
+    send-requires
+    show-requires
     add-index
     loop-less
     loop-again
-    end-of-requires-2
-    same-length-3
-    same-length-4
+    is-done-requires-2
+    same-length-2
     returns-2)

@@ -4,57 +4,44 @@ use mathlib.Core.Path.{_≡_, _∙_, sym, ap}
 use lib.ListN.{length, getD}
 use denote.Ref.{now}
 use Rattle.common.specs.Answer.{done, refused}
-use Rattle.packet.specs.Answers.{typeRead}
-use Rattle.packet.specs.Layout.{typeAnswer, headerWith}
+use Rattle.wire.specs.Answers.{typeRead}
+use Rattle.wire.specs.Kind.{typeAnswer}
+use Rattle.packet.specs.Layout.{headerWith}
 use Rattle.packet.specs.Decode.{behindHeader, chainOf}
-use Rattle.packet.specs.Laws.Layout.{type-unknown, type-known}
+use Rattle.wire.specs.Laws.Kind.{type-unknown, type-known}
 use Rattle.packet.specs.Laws.Decode.{decode-short, decode-type, decode-version, decode-behind}
 use Rattle.packet.specs.declared.header.Header.{Header}
-use Rattle.packet.specs.declared.header.PacketType.{PacketType}
+use Rattle.wire.specs.declared.kind.PacketType.{PacketType}
 use borrow.Author.Needs.{needs}
 use Rattle.packet.proofs.decode.Packet.decode.Statement.{statement}
 use Rattle.packet.proofs.decode.Packet.decode.Tie as tie
-use Rattle.packet.proofs.decode.Packet.decode.Reads as reads
-use Rattle.packet.proofs.decode.Packet.decode.Lts as lts
-use Rattle.packet.proofs.decode.decode_chain.Reads as decode-chain-reads
-use Rattle.packet.proofs.header.PacketType.of_number.Reads as of-number-reads
-use Rattle.packet.proofs.header.read_header.Reads as read-header-reads
 
--- src/decode.rt:43:13
 returns : tie.Need-returns
 returns c = sym (decode-short (now (c .before .before .args .datagram)) (c .if1 .taken))
 
--- src/decode.rt:45:21
 shared-slice-read-first : tie.Need-shared-slice-read-first
 shared-slice-read-first c = search needs
 
--- src/decode.rt:46:15
 of-number-requires : tie.Need-of-number-requires
 of-number-requires c κs = search needs
 
--- src/decode.rt:47:70
 enum-told : tie.Need-enum-told
 enum-told c = search needs
 
--- src/decode.rt:48:29
 enum-known-packet-type : tie.Need-enum-known-packet-type
 enum-known-packet-type c = search needs
 
--- src/decode.rt:50:44
 read-header-requires : tie.Need-read-header-requires
 read-header-requires c κs = search needs
 
--- src/decode.rt:50:21
 decode-chain-requires : tie.Need-decode-chain-requires
 decode-chain-requires c κs = search needs
 
--- src/decode.rt:39:5
 returns-2 : tie.Need-returns-2
 returns-2 c = let d = now (c .before .before .before .before .before .before .args .datagram) in
     let unknown : refused 2 ≡ typeAnswer (getD d 0 0 / 16) = sym (ap typeRead (c .enum-told .given .1)) ∙ c .before .before .of-number .ensures in
     sym (decode-type d (c .before .before .before .before .if1 .left) (type-unknown (getD d 0 0 / 16) unknown))
 
--- src/decode.rt:39:5
 returns-3 : tie.Need-returns-3
 returns-3 c = let d = now (c .before .before .before .before .before .before .before .before .before .before .args .datagram) in
     let t = c .before .before .before .before .packet-type .given in
@@ -64,7 +51,6 @@ returns-3 c = let d = now (c .before .before .before .before .before .before .be
     ∙ (ap (λ (h : Header). behindHeader h (length d) (chainOf d)) (c .before .read-header .ensures ∙ ap (λ (k : PacketType). headerWith k d) (kind .1))
     ∙ sym (decode-behind d (c .before .before .before .before .before .before .before .before .if1 .left) (kind .0) (c .before .before .if2 .taken)))
 
--- src/decode.rt:39:5
 returns-4 : tie.Need-returns-4
 returns-4 c = let d = now (c .before .before .before .before .before .before .before .before .args .datagram) in
     let t = c .before .before .packet-type .given in

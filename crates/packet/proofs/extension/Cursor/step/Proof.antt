@@ -2,55 +2,41 @@
 use Prim.Native.Nat.{_+_, _≤_, _<_}
 use native.Mathlib.Omega.{arith}
 use borrow.Author.Tests.{eq-eqb, ne-eqb, le-leb, lt-leb}
-use mathlib.Core.Path.{_≡_}
 use lib.ListN.{length, getD}
 use denote.Ref.{now}
 use borrow.Author.Needs.{needs}
 use Rattle.packet.proofs.extension.Cursor.step.Statement.{statement}
 use Rattle.packet.proofs.extension.Cursor.step.Tie as tie
-use Rattle.packet.proofs.extension.Cursor.step.Reads as reads
-use Rattle.packet.proofs.extension.Cursor.step.Lts as lts
-use Rattle.packet.proofs.extension.wide.Reads as wide-reads
 
--- src/extension.rt:75:13
 returns : tie.Need-returns
 returns c = simp (eq-eqb _ _ (c .if1 .taken))
 
--- src/extension.rt:78:13
 returns-2 : tie.Need-returns-2
 returns-2 c = let short : length (now (c .before .before .before .args .datagram)) < c .before .before .before .args .self .at + 2 = omega arith in
     simp (ne-eqb _ _ (c .before .if1 .left), lt-leb _ _ short)
 
--- src/extension.rt:80:12
 sub-if3 : tie.Need-sub-if3
 sub-if3 c = search needs
 
--- src/extension.rt:81:13
 returns-3 : tie.Need-returns-3
 returns-3 c = let short : length (now (c .before .before .before .before .args .datagram)) < c .before .before .before .before .args .self .at + 2 = omega arith in
     simp (ne-eqb _ _ (c .before .before .if1 .left), lt-leb _ _ short)
 
--- src/extension.rt:83:33
 add-wide : tie.Need-add-wide
 add-wide c = search needs
 
--- src/extension.rt:83:24
 shared-slice-read-wide : tie.Need-shared-slice-read-wide
 shared-slice-read-wide c = search needs
 
--- src/extension.rt:83:13
 wide-requires : tie.Need-wide-requires
 wide-requires c κs = search needs
 
--- src/extension.rt:84:12
 sub-if4 : tie.Need-sub-if4
 sub-if4 c = search needs
 
--- src/extension.rt:84:12
 sub-if4-2 : tie.Need-sub-if4-2
 sub-if4-2 c = search needs
 
--- src/extension.rt:85:13
 returns-4 : tie.Need-returns-4
 returns-4 c = let a = c .before .before .before .before .before .before .before .args in
     let d = now (a .datagram) in
@@ -60,23 +46,18 @@ returns-4 c = let a = c .before .before .before .before .before .before .before 
     let short : length d < at + 2 + getD d (at + 1) 0 = omega (arith, len) in
     simp (ne-eqb _ _ (c .before .before .before .before .before .if1 .left), le-leb _ _ head, lt-leb _ _ short)
 
--- src/extension.rt:87:31
 add-t9 : tie.Need-add-t9
 add-t9 c = search needs
 
--- src/extension.rt:91:25
 shared-slice-read-t11 : tie.Need-shared-slice-read-t11
 shared-slice-read-t11 c = search needs
 
--- src/extension.rt:92:21
 add-t9-2 : tie.Need-add-t9-2
 add-t9-2 c = search needs
 
--- src/extension.rt:92:21
 add-t12 : tie.Need-add-t12
 add-t12 c = search needs
 
--- src/extension.rt:69:5
 returns-5 : tie.Need-returns-5
 returns-5 c = let a = c .before .before .before .before .before .before .before .before .args in
     let d = now (a .datagram) in

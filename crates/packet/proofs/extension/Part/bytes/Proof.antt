@@ -4,47 +4,35 @@ use native.Mathlib.Nat.{add-sub-cancel-left}
 use borrow.Author.Needs.{needs}
 use Rattle.packet.proofs.extension.Part.bytes.Statement.{statement}
 use Rattle.packet.proofs.extension.Part.bytes.Tie as tie
-use Rattle.packet.proofs.extension.Part.bytes.Reads as reads
-use Rattle.packet.proofs.extension.Part.bytes.Lts as lts
 
--- src/extension.rt:56:23
 sub-if2 : tie.Need-sub-if2
 sub-if2 c = search needs
 
--- src/extension.rt:57:31
 add-result : tie.Need-add-result
 add-result c = search needs
 
--- src/extension.rt:57:17
 sub-result : tie.Need-sub-result
 sub-result c = search needs
 
--- src/extension.rt:57:17
 part-result-start : tie.Need-part-result-start
 part-result-start c = search needs
 
--- src/extension.rt:57:17
 part-result-end : tie.Need-part-result-end
 part-result-end c = search needs
 
--- src/extension.rt:59:17
 slice-aggregate-result : tie.Need-slice-aggregate-result
 slice-aggregate-result c = search needs
 
--- src/extension.rt:62:13
 slice-aggregate-result-2 : tie.Need-slice-aggregate-result-2
 slice-aggregate-result-2 c = search needs
 
--- src/extension.rt:50:5
 returns : tie.Need-returns
 returns c = let a = c .before .before .before .args in
     simp (le-leb _ _ (c .before .before .if1 .taken), le-leb _ _ (c .before .if2 .taken), add-sub-cancel-left)
 
--- src/extension.rt:50:5
 returns-2 : tie.Need-returns-2
 returns-2 c = simp (le-leb _ _ (c .before .before .if1 .taken), lt-leb _ _ (c .before .if2 .left))
 
--- src/extension.rt:50:5
 returns-3 : tie.Need-returns-3
 returns-3 c = simp (lt-leb _ _ (c .before .if1 .left))
 

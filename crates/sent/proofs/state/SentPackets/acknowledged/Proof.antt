@@ -2,7 +2,7 @@
 -- is new and no place is free, so only the clock is set.
 use mathlib.Core.Path.{_≡_, sym, ap, _∙_}
 use mathlib.Core.List.{List, _++_}
-use Prim.Native.Nat.{ℕ, _≤_, _-_, _+_}
+use Prim.Native.Nat.{ℕ, _-_, _+_}
 use native.Mathlib.Omega.{arith}
 use denote.Ref.{now}
 use lib.ListN.{length, length-map, take, drop}
@@ -14,7 +14,7 @@ use Rattle.sent.specs.declared.state.SentPackets.{SentPackets}
 use Rattle.outgoing.specs.declared.ack.Heard.{Heard}
 use Rattle.outgoing.specs.Ack.{fromUnacked}
 use Rattle.outgoing.specs.Hear.{lossHeardOf}
-use Rattle.sent.specs.Laws.Sound.{state-counts}
+use Rattle.sent.specs.Laws.Sound.{CountsOf, state-counts}
 use Rattle.sent.specs.Laws.Transmit.{stateWith}
 use Rattle.sent.specs.Laws.AckState.{heardOn, quiet, loud}
 use borrow.Author.Needs.{needs}
@@ -24,7 +24,7 @@ use Rattle.sent.proofs.state.SentPackets.acknowledged.Tie as tie
 full : (c : tie.Start) → length (c .args .self .packets) ≡ 512
 full c = sym (length-map (c .args .self .packets) _) ∙ c .good .0 .1 .1 .1 .1 .1 .1 .1 .0 .1 .0 .1
 
-counts : (c : tie.Start) → (c .args .self .live ≤ 512) × (c .args .self .live ≤ c .args .self .count) × (c .args .self .count ≤ 60000) × (length (take (c .args .self .live) (c .args .self .packets)) ≡ c .args .self .live)
+counts : (c : tie.Start) → CountsOf (c .args .self)
 counts c = state-counts (c .args .self) (c .pre .0) (full c)
 
 left-in : (s : SentPackets) (live : ℕ) (delays : Delays) (packets : List Packet) (n n′ : Numbers) → n ≡ n′

@@ -1,51 +1,21 @@
 -- `has_lost_packets` meets its contract: the list has one where one is counted.
-use mathlib.Core.Path.{_≡_, sym, ap, _∙_}
-use mathlib.Core.Bool.{true, false}
-use borrow.Author.Tests.{not-true, not-false}
-use Rattle.sent.specs.State.{stateSoundOf}
-use Prim.Native.Nat.{ℕ, _≤_, _-_}
-use native.Mathlib.Omega.{arith}
-use lib.ListN.{length, length-map, take}
-use Rattle.common.specs.Answer.{done}
-use Rattle.sent.specs.Laws.Sound.{unsound-refused, read-sound, state-counts}
-use Prim.Native.Nat.{_<_}
-use lib.Dec.{ltb}
-use Rattle.outgoing.specs.Read.{hasLostIn}
-use Rattle.sent.specs.Laws.LostState.{count-all}
+use mathlib.Core.Path.{_∙_, ap}
+use Rattle.outgoing.specs.Read.{anyOf, lostCountIn}
+use Rattle.outgoing.specs.Laws.Told.{any-told}
+use Rattle.sent.specs.State.{stateSoundOf, trackerOf}
 use borrow.Author.Needs.{needs}
 use Rattle.sent.proofs.state.SentPackets.has_lost_packets.Statement.{statement}
 use Rattle.sent.proofs.state.SentPackets.has_lost_packets.Tie as tie
 
-unsound : (c : tie.Then1) → stateSoundOf (c .before .before .args .self) ≡ false
-unsound c = sym (c .before .sound .ensures) ∙ not-true _ (c .if1 .taken)
+lost-count-requires : tie.Need-lost-count-requires
+lost-count-requires c κs = search needs
 
-sound-here : (c : tie.Else1) → stateSoundOf (c .before .before .args .self) ≡ true
-sound-here c = sym (c .before .sound .ensures) ∙ not-false _ (c .if1 .left)
-
-full : (c : tie.Start) → length (c .args .self .packets) ≡ 512
-full c = sym (length-map (c .args .self .packets) _) ∙ c .good .0 .1 .1 .1 .1 .1 .1 .1 .0 .1 .0 .1
-
-counts : (c : tie.Else1) → (c .before .before .args .self .live ≤ 512) × (c .before .before .args .self .live ≤ c .before .before .args .self .count) × (c .before .before .args .self .count ≤ 60000) × (length (take (c .before .before .args .self .live) (c .before .before .args .self .packets)) ≡ c .before .before .args .self .live)
-counts c = state-counts (c .before .before .args .self) (sound-here c) (full (c .before .before))
-
-fits : (c : tie.Start) → c .args .self .initial < 65536
-fits c = omega arith
-
-sound-requires : tie.Need-sound-requires
-sound-requires c κs = search needs
+any-told-requires : tie.Need-any-told-requires
+any-told-requires c κs = search needs
 
 returns : tie.Need-returns
-returns c = sym (unsound-refused _ _ (unsound c))
-
-cast-lost-between : tie.Need-cast-lost-between
-cast-lost-between c = search needs
-
-lost-between-requires : tie.Need-lost-between-requires
-lost-between-requires c κs = (omega arith, counts (c .before .before) .0)
-
-returns-2 : tie.Need-returns-2
-returns-2 c = ap (λ (n : ℕ). done (ltb 0 n)) (c .lost-between .ensures .0 ∙ sym (count-all (c .before .before .before .before .before .args .self) (full (c .before .before .before .before .before)) (sound-here (c .before .before .before)) (fits (c .before .before .before .before .before)))) ∙ sym (read-sound _ hasLostIn (sound-here (c .before .before .before)))
+returns c = let s = c .before .before .args .self in
+    c .any-told .ensures ∙ ap anyOf (c .before .lost-count .ensures) ∙ any-told (stateSoundOf s) (lostCountIn (trackerOf s))
 
 pub has-lost-packets-spec : {M : Type 1} → statement M
-has-lost-packets-spec =
-    tie.close (tie.spec sound-requires returns cast-lost-between lost-between-requires returns-2)
+has-lost-packets-spec = tie.close (tie.spec lost-count-requires any-told-requires returns)

@@ -1,31 +1,22 @@
 -- `in_flight` meets its contract: the field, of a sound state.
+use mathlib.Core.Path.{_∙_, refl}
 use Rattle.outgoing.specs.Read.{inFlightIn}
-use mathlib.Core.Path.{_≡_, sym, _∙_}
-use mathlib.Core.Bool.{true, false}
-use borrow.Author.Tests.{not-true, not-false}
-use Rattle.sent.specs.State.{stateSoundOf}
-use Rattle.sent.specs.Laws.Sound.{unsound-refused, read-sound}
+use Rattle.sent.specs.Laws.Sound.{read-told}
 use borrow.Author.Needs.{needs}
 use Rattle.sent.proofs.state.SentPackets.in_flight.Statement.{statement}
 use Rattle.sent.proofs.state.SentPackets.in_flight.Tie as tie
 
-unsound : (c : tie.Then1) → stateSoundOf (c .before .before .args .self) ≡ false
-unsound c = sym (c .before .sound .ensures) ∙ not-true _ (c .if1 .taken)
-
-sound-here : (c : tie.Else1) → stateSoundOf (c .before .before .args .self) ≡ true
-sound-here c = sym (c .before .sound .ensures) ∙ not-false _ (c .if1 .left)
-
 sound-requires : tie.Need-sound-requires
 sound-requires c κs = search needs
 
+cast-number-told : tie.Need-cast-number-told
+cast-number-told c = search needs
+
+number-told-requires : tie.Need-number-told-requires
+number-told-requires c κs = search needs
+
 returns : tie.Need-returns
-returns c = sym (unsound-refused _ _ (unsound c))
-
-cast-t5 : tie.Need-cast-t5
-cast-t5 c = search needs
-
-returns-2 : tie.Need-returns-2
-returns-2 c = sym (read-sound _ inFlightIn (sound-here (c .before)))
+returns c = c .number-told .ensures ∙ read-told (c .before .before .before .args .self) inFlightIn _ _ (c .before .before .sound .ensures) (λ _. refl)
 
 pub in-flight-spec : {M : Type 1} → statement M
-in-flight-spec = tie.close (tie.spec sound-requires returns cast-t5 returns-2)
+in-flight-spec = tie.close (tie.spec sound-requires cast-number-told number-told-requires returns)

@@ -3,17 +3,17 @@ use mathlib.Core.Path.{_≡_, sym, ap, _∙_}
 use mathlib.Core.Bool.{true, false}
 use borrow.Author.Tests.{not-true, not-false}
 use Rattle.sent.specs.State.{stateSoundOf}
-use Prim.Native.Nat.{ℕ, _≤_, _-_, _+_}
+use Prim.Native.Nat.{ℕ, _-_, _+_}
 use native.Mathlib.Omega.{arith}
 use lib.ListN.{length, length-map, take}
 use Rattle.common.specs.Answer.{done}
-use Rattle.sent.specs.Laws.Sound.{unsound-refused, state-counts}
+use Rattle.sent.specs.Laws.Sound.{CountsOf, unsound-refused, state-counts}
 use mathlib.Core.Path.{ap₂}
 use Prim.Native.Nat.{_<_}
 use lib.ListN.{getD}
 use lib.Seq.{slice}
-use Rattle.packet.specs.declared.seq.SeqNum.{SeqNum}
-use Rattle.packet.specs.declared.header.PacketType.{PacketType}
+use Rattle.wire.specs.declared.seq.SeqNum.{SeqNum}
+use Rattle.wire.specs.declared.kind.PacketType.{PacketType}
 use Rattle.outgoing.specs.declared.answer.LostPacket.{LostPacket}
 use Rattle.outgoing.specs.Tracker.{noPacket}
 use Rattle.outgoing.specs.Lost.{lostPacketOf, lostAtOf, lostCountOf, wrapPlace, lostPlaceOf}
@@ -33,7 +33,7 @@ sound-here c = sym (c .before .sound .ensures) ∙ not-false _ (c .if1 .left)
 full : (c : tie.Start) → length (c .args .self .packets) ≡ 512
 full c = sym (length-map (c .args .self .packets) _) ∙ c .good .0 .1 .1 .1 .1 .1 .1 .1 .0 .1 .0 .1
 
-counts : (c : tie.Else1) → (c .before .before .args .self .live ≤ 512) × (c .before .before .args .self .live ≤ c .before .before .args .self .count) × (c .before .before .args .self .count ≤ 60000) × (length (take (c .before .before .args .self .live) (c .before .before .args .self .packets)) ≡ c .before .before .args .self .live)
+counts : (c : tie.Else1) → CountsOf (c .before .before .args .self)
 counts c = state-counts (c .before .before .args .self) (sound-here c) (full (c .before .before))
 
 fits : (c : tie.Start) → c .args .self .initial < 65536

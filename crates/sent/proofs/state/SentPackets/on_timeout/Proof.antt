@@ -3,9 +3,9 @@ use mathlib.Core.Path.{_≡_, sym, ap, _∙_}
 use mathlib.Core.Bool.{true, false}
 use borrow.Author.Tests.{not-true, not-false}
 use Rattle.sent.specs.State.{stateSoundOf}
-use Prim.Native.Nat.{_≤_, _-_}
+use Prim.Native.Nat.{_-_}
 use native.Mathlib.Omega.{arith}
-use lib.ListN.{length, length-map, take}
+use lib.ListN.{length, length-map}
 use Rattle.common.specs.Answer.{done}
 use Rattle.congestion.specs.declared.numbers.Numbers.{Numbers}
 use Rattle.congestion.specs.Numbers.{timedOutOf}
@@ -13,7 +13,7 @@ use Rattle.sent.specs.declared.state.SentPackets.{SentPackets}
 use Rattle.outgoing.specs.Sound.{timeoutOf}
 use Rattle.sent.specs.State.{answeredOf, trackerOf, timeoutAnswer}
 use Rattle.sent.specs.Laws.Kept.{written-kept}
-use Rattle.sent.specs.Laws.Sound.{unsound-refused, sound-answered, state-facts, state-counts}
+use Rattle.sent.specs.Laws.Sound.{CountsOf, unsound-refused, sound-answered, state-facts, state-counts}
 use borrow.Author.Needs.{needs}
 use Rattle.sent.proofs.state.SentPackets.on_timeout.Statement.{statement}
 use Rattle.sent.proofs.state.SentPackets.on_timeout.Tie as tie
@@ -27,7 +27,7 @@ sound-here c = sym (c .before .sound .ensures) ∙ not-false _ (c .if1 .left)
 full : (c : tie.Start) → length (c .args .self .packets) ≡ 512
 full c = sym (length-map (c .args .self .packets) _) ∙ c .good .0 .1 .1 .1 .1 .1 .1 .1 .0 .1 .0 .1
 
-counts : (c : tie.Else1) → (c .before .before .args .self .live ≤ 512) × (c .before .before .args .self .live ≤ c .before .before .args .self .count) × (c .before .before .args .self .count ≤ 60000) × (length (take (c .before .before .args .self .live) (c .before .before .args .self .packets)) ≡ c .before .before .args .self .live)
+counts : (c : tie.Else1) → CountsOf (c .before .before .args .self)
 counts c = state-counts (c .before .before .args .self) (sound-here c) (full (c .before .before))
 
 abbrev with-numbers : SentPackets → Numbers → SentPackets

@@ -1,11 +1,11 @@
 -- `resent` meets its contract: a packet that is kept gets the mark at its place, and of one that is gone nothing is noted.
 use mathlib.Core.Path.{_≡_, sym, ap, ap₂, _∙_}
-use Prim.Native.Nat.{_≤_, _-_}
+use Prim.Native.Nat.{_-_}
 use native.Mathlib.Omega.{arith}
-use lib.ListN.{length, length-map, take, set}
+use lib.ListN.{length, length-map, set}
 use Rattle.congestion.specs.declared.numbers.Numbers.{Numbers}
 use Rattle.outgoing.specs.declared.kept.Packet.{Packet}
-use Rattle.sent.specs.Laws.Sound.{state-counts}
+use Rattle.sent.specs.Laws.Sound.{CountsOf, state-counts}
 use Rattle.sent.specs.Laws.Transmit.{stateWith, resent-gone, resent-kept}
 use borrow.Author.Needs.{needs}
 use Rattle.sent.proofs.state.SentPackets.resent.Statement.{statement}
@@ -14,7 +14,7 @@ use Rattle.sent.proofs.state.SentPackets.resent.Tie as tie
 full : (c : tie.Start) → length (c .args .self .packets) ≡ 512
 full c = sym (length-map (c .args .self .packets) _) ∙ c .good .0 .1 .1 .1 .1 .1 .1 .1 .0 .1 .0 .1
 
-counts : (c : tie.Start) → (c .args .self .live ≤ 512) × (c .args .self .live ≤ c .args .self .count) × (c .args .self .count ≤ 60000) × (length (take (c .args .self .live) (c .args .self .packets)) ≡ c .args .self .live)
+counts : (c : tie.Start) → CountsOf (c .args .self)
 counts c = state-counts (c .args .self) (c .pre .0) (full c)
 
 sub-gone : tie.Need-sub-gone

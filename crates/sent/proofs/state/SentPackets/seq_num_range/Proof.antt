@@ -1,45 +1,29 @@
--- `seq_num_range` meets its contract: from the initial number to the one as far on as packets were sent.
+-- `seq_num_range` meets its contract: from the initial number to the last sent, of a sound state.
+use mathlib.Core.Path.{_∙_, ap}
 use Rattle.outgoing.specs.Read.{seqNumRangeIn}
-use mathlib.Core.Path.{_≡_, sym, ap, _∙_}
-use mathlib.Core.Bool.{true, false}
-use borrow.Author.Tests.{not-true, not-false}
-use Rattle.sent.specs.State.{stateSoundOf}
-use Prim.Native.Nat.{_≤_, _-_}
-use native.Mathlib.Omega.{arith}
-use lib.ListN.{length, length-map, take}
-use Rattle.common.specs.Answer.{done}
-use Rattle.packet.specs.declared.seq.SeqNum.{SeqNum}
-use Rattle.sent.specs.Laws.Sound.{unsound-refused, read-sound, state-counts}
+use Rattle.sent.specs.Laws.Sound.{read-told}
+use Rattle.wire.specs.Seq.{rangeOf}
 use borrow.Author.Needs.{needs}
 use Rattle.sent.proofs.state.SentPackets.seq_num_range.Statement.{statement}
 use Rattle.sent.proofs.state.SentPackets.seq_num_range.Tie as tie
 
-unsound : (c : tie.Then1) → stateSoundOf (c .before .before .args .self) ≡ false
-unsound c = sym (c .before .sound .ensures) ∙ not-true _ (c .if1 .taken)
+at-requires : tie.Need-at-requires
+at-requires c κs = search needs
 
-sound-here : (c : tie.Else1) → stateSoundOf (c .before .before .args .self) ≡ true
-sound-here c = sym (c .before .sound .ensures) ∙ not-false _ (c .if1 .left)
-
-full : (c : tie.Start) → length (c .args .self .packets) ≡ 512
-full c = sym (length-map (c .args .self .packets) _) ∙ c .good .0 .1 .1 .1 .1 .1 .1 .1 .0 .1 .0 .1
-
-counts : (c : tie.Else1) → (c .before .before .args .self .live ≤ 512) × (c .before .before .args .self .live ≤ c .before .before .args .self .count) × (c .before .before .args .self .count ≤ 60000) × (length (take (c .before .before .args .self .live) (c .before .before .args .self .packets)) ≡ c .before .before .args .self .live)
-counts c = state-counts (c .before .before .args .self) (sound-here c) (full (c .before .before))
+new-requires : tie.Need-new-requires
+new-requires c κs = search needs
 
 sound-requires : tie.Need-sound-requires
 sound-requires c κs = search needs
 
+range-told-requires : tie.Need-range-told-requires
+range-told-requires c κs = search needs
+
 returns : tie.Need-returns
-returns c = sym (unsound-refused _ _ (unsound c))
-
-cast-plus : tie.Need-cast-plus
-cast-plus c = omega (arith, counts (c .before) .2)
-
-plus-requires : tie.Need-plus-requires
-plus-requires c κs = search needs
-
-returns-2 : tie.Need-returns-2
-returns-2 c = ap (λ (e : SeqNum). done (record { start = record { 0 = c .before .before .before .before .args .self .initial }; end = e; exhausted = false })) (c .plus .ensures) ∙ sym (read-sound _ seqNumRangeIn (sound-here (c .before .before)))
+returns c =
+    let s = c .before .before .before .before .args .self in
+    c .range-told .ensures
+    ∙ read-told s seqNumRangeIn _ _ (c .before .sound .ensures) (λ _. c .before .before .new .ensures ∙ ap (rangeOf (record { 0 = s .initial })) (c .before .before .before .at .ensures))
 
 pub seq-num-range-spec : {M : Type 1} → statement M
-seq-num-range-spec = tie.close (tie.spec sound-requires returns cast-plus plus-requires returns-2)
+seq-num-range-spec = tie.close (tie.spec at-requires new-requires sound-requires range-told-requires returns)

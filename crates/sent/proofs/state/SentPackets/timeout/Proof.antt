@@ -1,28 +1,19 @@
 -- `timeout` meets its contract: the field, of a sound state.
+use mathlib.Core.Path.{_∙_, refl}
 use Rattle.outgoing.specs.Read.{timeoutIn}
-use mathlib.Core.Path.{_≡_, sym, _∙_}
-use mathlib.Core.Bool.{true, false}
-use borrow.Author.Tests.{not-true, not-false}
-use Rattle.sent.specs.State.{stateSoundOf}
-use Rattle.sent.specs.Laws.Sound.{unsound-refused, read-sound}
+use Rattle.sent.specs.Laws.Sound.{read-told}
 use borrow.Author.Needs.{needs}
 use Rattle.sent.proofs.state.SentPackets.timeout.Statement.{statement}
 use Rattle.sent.proofs.state.SentPackets.timeout.Tie as tie
 
-unsound : (c : tie.Then1) → stateSoundOf (c .before .before .args .self) ≡ false
-unsound c = sym (c .before .sound .ensures) ∙ not-true _ (c .if1 .taken)
-
-sound-here : (c : tie.Else1) → stateSoundOf (c .before .before .args .self) ≡ true
-sound-here c = sym (c .before .sound .ensures) ∙ not-false _ (c .if1 .left)
-
 sound-requires : tie.Need-sound-requires
 sound-requires c κs = search needs
 
-returns : tie.Need-returns
-returns c = sym (unsound-refused _ _ (unsound c))
+number-told-requires : tie.Need-number-told-requires
+number-told-requires c κs = search needs
 
-returns-2 : tie.Need-returns-2
-returns-2 c = sym (read-sound _ timeoutIn (sound-here c))
+returns : tie.Need-returns
+returns c = c .number-told .ensures ∙ read-told (c .before .before .args .self) timeoutIn _ _ (c .before .sound .ensures) (λ _. refl)
 
 pub timeout-spec : {M : Type 1} → statement M
-timeout-spec = tie.close (tie.spec sound-requires returns returns-2)
+timeout-spec = tie.close (tie.spec sound-requires number-told-requires returns)

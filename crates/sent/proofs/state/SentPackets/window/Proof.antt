@@ -1,35 +1,25 @@
--- `window` meets its contract: what the numbers of a sound state say is free.
+-- `window` meets its contract: the free window of its numbers, of a sound state.
+use mathlib.Core.Path.{_∙_}
 use Rattle.outgoing.specs.Read.{windowIn}
-use mathlib.Core.Path.{_≡_, sym, ap, _∙_}
-use mathlib.Core.Bool.{true, false}
-use borrow.Author.Tests.{not-true, not-false}
-use Rattle.sent.specs.State.{stateSoundOf}
-use Rattle.common.specs.Answer.{done}
-use Rattle.sent.specs.Laws.Sound.{unsound-refused, read-sound}
+use Rattle.sent.specs.Laws.Sound.{read-told}
 use borrow.Author.Needs.{needs}
 use Rattle.sent.proofs.state.SentPackets.window.Statement.{statement}
 use Rattle.sent.proofs.state.SentPackets.window.Tie as tie
 
-unsound : (c : tie.Then1) → stateSoundOf (c .before .before .args .self) ≡ false
-unsound c = sym (c .before .sound .ensures) ∙ not-true _ (c .if1 .taken)
-
-sound-here : (c : tie.Else1) → stateSoundOf (c .before .before .args .self) ≡ true
-sound-here c = sym (c .before .sound .ensures) ∙ not-false _ (c .if1 .left)
-
 sound-requires : tie.Need-sound-requires
 sound-requires c κs = search needs
-
-returns : tie.Need-returns
-returns c = sym (unsound-refused _ _ (unsound c))
 
 free-window-requires : tie.Need-free-window-requires
 free-window-requires c κs = search needs
 
-cast-t7 : tie.Need-cast-t7
-cast-t7 c = search needs
+cast-number-told : tie.Need-cast-number-told
+cast-number-told c = search needs
 
-returns-2 : tie.Need-returns-2
-returns-2 c = ap done (c .free-window .ensures) ∙ sym (read-sound _ windowIn (sound-here (c .before .before)))
+number-told-requires : tie.Need-number-told-requires
+number-told-requires c κs = search needs
+
+returns : tie.Need-returns
+returns c = c .number-told .ensures ∙ read-told (c .before .before .before .before .args .self) windowIn _ _ (c .before .before .sound .ensures) (λ _. c .before .free-window .ensures)
 
 pub window-spec : {M : Type 1} → statement M
-window-spec = tie.close (tie.spec sound-requires returns free-window-requires cast-t7 returns-2)
+window-spec = tie.close (tie.spec sound-requires free-window-requires cast-number-told number-told-requires returns)

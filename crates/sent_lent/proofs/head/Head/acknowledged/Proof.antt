@@ -16,7 +16,7 @@ use Rattle.outgoing.specs.declared.ack.Heard.{Heard}
 use Rattle.outgoing.specs.Ack.{fromUnacked, heardOf}
 use Rattle.outgoing.specs.Hear.{lossHeardOf}
 use Rattle.sent_lent.specs.Lent.{packetsIn, wholeIn, heardIn}
-use Rattle.sent.specs.Laws.Sound.{state-counts}
+use Rattle.sent.specs.Laws.Sound.{CountsOf, state-counts}
 use Rattle.sent.specs.Laws.Transmit.{stateWith}
 use Rattle.sent.specs.Laws.Acknowledge.{no-news}
 use Rattle.sent.specs.Laws.AckState.{ackOn, startOn, heardOn, quiet, loud}
@@ -32,7 +32,7 @@ whole c = wholeIn (c .args .self) (now (c .args .samples)) (now (c .args .times)
 full : (c : tie.Start) → length (whole c .packets) ≡ 512
 full c = packets-512 (now (c .args .times)) (now (c .args .sizes)) (now (c .args .marks)) (c .pre .5)
 
-counts : (c : tie.Start) → (whole c .live ≤ 512) × (whole c .live ≤ whole c .count) × (whole c .count ≤ 60000) × (length (take (whole c .live) (whole c .packets)) ≡ whole c .live)
+counts : (c : tie.Start) → CountsOf (whole c)
 counts c = state-counts (whole c) (c .pre .0) (full c)
 
 few : (c : tie.Start) → c .args .self .kept ≤ 1024

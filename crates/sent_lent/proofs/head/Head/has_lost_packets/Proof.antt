@@ -1,75 +1,26 @@
 -- `has_lost_packets` meets its contract: the list has one where one is counted.
-use mathlib.Core.Path.{_≡_, sym, ap, _∙_}
-use mathlib.Core.Bool.{true, false}
-use Prim.Native.Nat.{ℕ, _≤_, _<_}
-use native.Mathlib.Omega.{arith}
-use lib.Dec.{ltb}
-use lib.ListN.{length, take}
-use borrow.Author.Needs.{needs}
-use borrow.Author.Tests.{not-true, not-false}
-use Rattle.common.specs.Answer.{done}
+use mathlib.Core.Path.{_∙_, ap}
+use Rattle.outgoing.specs.Read.{anyOf, lostCountIn}
+use Rattle.outgoing.specs.Laws.Told.{any-told}
+use Rattle.sent.specs.State.{stateSoundOf, trackerOf}
 use Rattle.sent.specs.declared.state.SentPackets.{SentPackets}
 use Rattle.sent_lent.specs.Lent.{wholeIn}
-use Rattle.outgoing.specs.Read.{hasLostIn}
-use Rattle.sent.specs.State.{stateSoundOf}
-use Rattle.sent.specs.Laws.LostState.{count-all}
-use Rattle.sent.specs.Laws.Sound.{unsound-refused, read-sound}
-use Rattle.sent_lent.specs.Laws.LentHead.{whole-full, whole-counts}
+use borrow.Author.Needs.{needs}
 use Rattle.sent_lent.proofs.head.Head.has_lost_packets.Statement.{statement}
 use Rattle.sent_lent.proofs.head.Head.has_lost_packets.Tie as tie
 
 abbrev whole : tie.Start → SentPackets
 whole c = wholeIn (c .args .self) (c .args .samples .now) (c .args .times .now) (c .args .sizes .now) (c .args .marks .now)
 
-abbrev start : tie.After-is-sound → tie.Start
-start c = c .before .before .before .before .before .before
+lost-count-requires : tie.Need-lost-count-requires
+lost-count-requires c κs = search needs
 
-unsound : (c : tie.Then1) → stateSoundOf (whole (start (c .before))) ≡ false
-unsound c = sym (c .before .is-sound .ensures) ∙ not-true _ (c .if1 .taken)
-
-sound-here : (c : tie.Else1) → stateSoundOf (whole (start (c .before))) ≡ true
-sound-here c = sym (c .before .is-sound .ensures) ∙ not-false _ (c .if1 .left)
-
-counts : (c : tie.Else1)
-    → (start (c .before) .args .self .live ≤ 512)
-    × (start (c .before) .args .self .live ≤ start (c .before) .args .self .count)
-    × (start (c .before) .args .self .count ≤ 60000)
-    × (length (take (start (c .before) .args .self .live) (whole (start (c .before)) .packets)) ≡ start (c .before) .args .self .live)
-counts c =
-    let a = start (c .before) .args in
-    whole-counts (a .self) (a .samples .now) (a .times .now) (a .sizes .now) (a .marks .now) (c .before .before .tell-places .ensures .1 .times-512) (sound-here c)
-
-full : (c : tie.Else1) → length (whole (start (c .before)) .packets) ≡ 512
-full c =
-    let a = start (c .before) .args in
-    whole-full (a .self) (a .samples .now) (a .times .now) (a .sizes .now) (a .marks .now) (c .before .before .tell-places .ensures .1 .times-512)
-
-fits : (c : tie.Start) → c .args .self .initial < 65536
-fits c = omega arith
-
-tell-places-requires : tie.Need-tell-places-requires
-tell-places-requires c κs = search needs
-
-is-sound-requires : tie.Need-is-sound-requires
-is-sound-requires c κs = search needs
+any-told-requires : tie.Need-any-told-requires
+any-told-requires c κs = search needs
 
 returns : tie.Need-returns
-returns c = sym (unsound-refused _ _ (unsound c))
-
-cast-live : tie.Need-cast-live
-cast-live c = search needs
-
-lost-between-requires : tie.Need-lost-between-requires
-lost-between-requires c κs = (c .before .before .before .tell-places .ensures .1, omega arith, counts (c .before) .0)
-
-returns-2 : tie.Need-returns-2
-returns-2 c =
-    let known = c .before .before in
-    let s = whole (start (known .before)) in
-    ap (λ (n : ℕ). done (ltb 0 n)) (c .lost-between .ensures .0 ∙ sym (count-all s (full known) (sound-here known) (fits (start (known .before)))))
-    ∙ sym (read-sound _ hasLostIn (sound-here known))
+returns c = let s = whole (c .before .before) in
+    c .any-told .ensures ∙ ap anyOf (c .before .lost-count .ensures) ∙ any-told (stateSoundOf s) (lostCountIn (trackerOf s))
 
 pub has-lost-packets-spec : {M : Type 1} → statement M
-has-lost-packets-spec =
-    tie.close
-    (tie.spec tell-places-requires is-sound-requires returns cast-live lost-between-requires returns-2)
+has-lost-packets-spec = tie.close (tie.spec lost-count-requires any-told-requires returns)

@@ -1,10 +1,7 @@
 -- `in_flight` meets its contract: the field, of a sound state.
+use mathlib.Core.Path.{_∙_, refl}
 use Rattle.outgoing.specs.Read.{inFlightIn}
-use mathlib.Core.Path.{_≡_, sym, _∙_}
-use mathlib.Core.Bool.{true, false}
-use borrow.Author.Tests.{not-true, not-false}
-use Rattle.sent.specs.State.{stateSoundOf}
-use Rattle.sent.specs.Laws.Sound.{unsound-refused, read-sound}
+use Rattle.sent.specs.Laws.Sound.{read-told}
 use Rattle.sent.specs.declared.state.SentPackets.{SentPackets}
 use Rattle.sent_lent.specs.Lent.{wholeIn}
 use borrow.Author.Needs.{needs}
@@ -14,23 +11,17 @@ use Rattle.sent_lent.proofs.head.Head.in_flight.Tie as tie
 abbrev whole : tie.Start → SentPackets
 whole c = wholeIn (c .args .self) (c .args .samples .now) (c .args .times .now) (c .args .sizes .now) (c .args .marks .now)
 
-unsound : (c : tie.Then1) → stateSoundOf (whole (c .before .before)) ≡ false
-unsound c = sym (c .before .sound .ensures) ∙ not-true _ (c .if1 .taken)
-
-sound-here : (c : tie.Else1) → stateSoundOf (whole (c .before .before)) ≡ true
-sound-here c = sym (c .before .sound .ensures) ∙ not-false _ (c .if1 .left)
-
 sound-requires : tie.Need-sound-requires
 sound-requires c κs = search needs
 
+cast-number-told : tie.Need-cast-number-told
+cast-number-told c = search needs
+
+number-told-requires : tie.Need-number-told-requires
+number-told-requires c κs = search needs
+
 returns : tie.Need-returns
-returns c = sym (unsound-refused _ _ (unsound c))
-
-cast-t9 : tie.Need-cast-t9
-cast-t9 c = search needs
-
-returns-2 : tie.Need-returns-2
-returns-2 c = sym (read-sound _ inFlightIn (sound-here (c .before)))
+returns c = c .number-told .ensures ∙ read-told (whole (c .before .before .before)) inFlightIn _ _ (c .before .before .sound .ensures) (λ _. refl)
 
 pub in-flight-spec : {M : Type 1} → statement M
-in-flight-spec = tie.close (tie.spec sound-requires returns cast-t9 returns-2)
+in-flight-spec = tie.close (tie.spec sound-requires cast-number-told number-told-requires returns)

@@ -1,15 +1,15 @@
 -- `lost_at` meets its contract: past the wrap come first, so the position is looked for there and then before it.
 use mathlib.Core.Path.{_≡_, sym, ap, ap₂, _∙_}
 use mathlib.Core.Bool.{true, false}
-use Prim.Native.Nat.{ℕ, _≤_, _<_, _-_, _+_}
+use Prim.Native.Nat.{ℕ, _<_, _-_, _+_}
 use native.Mathlib.Omega.{arith}
 use lib.ListN.{length, take, getD}
 use lib.Seq.{slice}
 use borrow.Author.Needs.{needs}
 use borrow.Author.Tests.{not-true, not-false}
 use Rattle.common.specs.Answer.{done}
-use Rattle.packet.specs.declared.seq.SeqNum.{SeqNum}
-use Rattle.packet.specs.declared.header.PacketType.{PacketType}
+use Rattle.wire.specs.declared.seq.SeqNum.{SeqNum}
+use Rattle.wire.specs.declared.kind.PacketType.{PacketType}
 use Rattle.outgoing.specs.declared.answer.LostPacket.{LostPacket}
 use Rattle.outgoing.specs.declared.kept.Packet.{Packet}
 use Rattle.sent.specs.declared.state.SentPackets.{SentPackets}
@@ -18,7 +18,7 @@ use Rattle.outgoing.specs.Tracker.{noPacket}
 use Rattle.outgoing.specs.Lost.{lostPacketOf, lostAtOf, lostCountOf, wrapPlace, lostPlaceOf}
 use Rattle.sent.specs.State.{stateSoundOf, trackerOf}
 use Rattle.sent.specs.Laws.LostState.{none-there, one-there}
-use Rattle.sent.specs.Laws.Sound.{unsound-refused, sound-answered}
+use Rattle.sent.specs.Laws.Sound.{CountsOf, unsound-refused, sound-answered}
 use Rattle.sent_lent.specs.Laws.LentHead.{whole-full, whole-counts}
 use Rattle.sent_lent.proofs.head.Head.lost_at.Statement.{statement}
 use Rattle.sent_lent.proofs.head.Head.lost_at.Tie as tie
@@ -35,11 +35,7 @@ unsound c = sym (c .before .is-sound .ensures) ∙ not-true _ (c .if1 .taken)
 sound-here : (c : tie.Else1) → stateSoundOf (whole (start (c .before))) ≡ true
 sound-here c = sym (c .before .is-sound .ensures) ∙ not-false _ (c .if1 .left)
 
-counts : (c : tie.Else1)
-    → (start (c .before) .args .self .live ≤ 512)
-    × (start (c .before) .args .self .live ≤ start (c .before) .args .self .count)
-    × (start (c .before) .args .self .count ≤ 60000)
-    × (length (take (start (c .before) .args .self .live) (whole (start (c .before)) .packets)) ≡ start (c .before) .args .self .live)
+counts : (c : tie.Else1) → CountsOf (whole (start (c .before)))
 counts c =
     let a = start (c .before) .args in
     whole-counts (a .self) (a .samples .now) (a .times .now) (a .sizes .now) (a .marks .now) (c .before .before .tell-places .ensures .1 .times-512) (sound-here c)

@@ -1,9 +1,9 @@
 -- `lost_count` meets its contract: each lost packet is in the list once.
 use mathlib.Core.Path.{_≡_, sym, ap, _∙_}
 use mathlib.Core.Bool.{true, false}
-use Prim.Native.Nat.{_≤_, _<_}
+use Prim.Native.Nat.{_<_}
 use native.Mathlib.Omega.{arith}
-use lib.ListN.{length, take}
+use lib.ListN.{length}
 use borrow.Author.Needs.{needs}
 use borrow.Author.Tests.{not-true, not-false}
 use Rattle.common.specs.Answer.{done}
@@ -12,7 +12,7 @@ use Rattle.sent_lent.specs.Lent.{wholeIn}
 use Rattle.outgoing.specs.Read.{lostCountIn}
 use Rattle.sent.specs.State.{stateSoundOf}
 use Rattle.sent.specs.Laws.LostState.{count-all}
-use Rattle.sent.specs.Laws.Sound.{unsound-refused, read-sound}
+use Rattle.sent.specs.Laws.Sound.{CountsOf, unsound-refused, read-sound}
 use Rattle.sent_lent.specs.Laws.LentHead.{whole-full, whole-counts}
 use Rattle.sent_lent.proofs.head.Head.lost_count.Statement.{statement}
 use Rattle.sent_lent.proofs.head.Head.lost_count.Tie as tie
@@ -29,11 +29,7 @@ unsound c = sym (c .before .is-sound .ensures) ∙ not-true _ (c .if1 .taken)
 sound-here : (c : tie.Else1) → stateSoundOf (whole (start (c .before))) ≡ true
 sound-here c = sym (c .before .is-sound .ensures) ∙ not-false _ (c .if1 .left)
 
-counts : (c : tie.Else1)
-    → (start (c .before) .args .self .live ≤ 512)
-    × (start (c .before) .args .self .live ≤ start (c .before) .args .self .count)
-    × (start (c .before) .args .self .count ≤ 60000)
-    × (length (take (start (c .before) .args .self .live) (whole (start (c .before)) .packets)) ≡ start (c .before) .args .self .live)
+counts : (c : tie.Else1) → CountsOf (whole (start (c .before)))
 counts c =
     let a = start (c .before) .args in
     whole-counts (a .self) (a .samples .now) (a .times .now) (a .sizes .now) (a .marks .now) (c .before .before .tell-places .ensures .1 .times-512) (sound-here c)

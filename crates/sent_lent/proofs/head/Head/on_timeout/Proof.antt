@@ -1,8 +1,7 @@
 -- `on_timeout` meets its contract: only the numbers change, and those of a sound state by the rule.
 use mathlib.Core.Path.{_≡_, sym, ap, _∙_}
 use mathlib.Core.Bool.{true, false}
-use Prim.Native.Nat.{ℕ, _≤_}
-use lib.ListN.{length, take}
+use Prim.Native.Nat.{ℕ}
 use borrow.Author.Needs.{needs}
 use borrow.Author.Tests.{not-true, not-false}
 use Rattle.common.specs.Answer.{Answer, done}
@@ -14,7 +13,7 @@ use Rattle.sent_lent.specs.Lent.{wholeIn, headed}
 use Rattle.outgoing.specs.Tracker.{Tracker}
 use Rattle.outgoing.specs.Sound.{timeoutOf}
 use Rattle.sent.specs.State.{stateSoundOf, answeredOf, trackerOf, timeoutAnswer}
-use Rattle.sent.specs.Laws.Sound.{unsound-refused, sound-answered, state-facts}
+use Rattle.sent.specs.Laws.Sound.{CountsOf, unsound-refused, sound-answered, state-facts}
 use Rattle.sent_lent.specs.Laws.LentHead.{whole-counts}
 use Rattle.sent_lent.proofs.head.Head.on_timeout.Statement.{statement}
 use Rattle.sent_lent.proofs.head.Head.on_timeout.Tie as tie
@@ -31,11 +30,7 @@ unsound c = sym (c .before .is-sound .ensures) ∙ not-true _ (c .if1 .taken)
 sound-here : (c : tie.Else1) → stateSoundOf (whole (start (c .before))) ≡ true
 sound-here c = sym (c .before .is-sound .ensures) ∙ not-false _ (c .if1 .left)
 
-counts : (c : tie.Else1)
-    → (start (c .before) .args .self .live ≤ 512)
-    × (start (c .before) .args .self .live ≤ start (c .before) .args .self .count)
-    × (start (c .before) .args .self .count ≤ 60000)
-    × (length (take (start (c .before) .args .self .live) (whole (start (c .before)) .packets)) ≡ start (c .before) .args .self .live)
+counts : (c : tie.Else1) → CountsOf (whole (start (c .before)))
 counts c =
     let a = start (c .before) .args in
     whole-counts (a .self) (a .samples .now) (a .times .now) (a .sizes .now) (a .marks .now) (c .before .before .tell-places .ensures .1 .times-512) (sound-here c)

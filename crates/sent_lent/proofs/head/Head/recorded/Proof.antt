@@ -1,16 +1,16 @@
 -- `recorded` meets its contract: the packet is stored at the first free place.
 use mathlib.Core.Path.{_≡_, ap, ap₂, _∙_}
 use mathlib.Core.List.{List}
-use Prim.Native.Nat.{_≤_, _+_}
+use Prim.Native.Nat.{_+_}
 use native.Mathlib.Omega.{arith}
 use denote.Ref.{now}
-use lib.ListN.{length, take}
+use lib.ListN.{length}
 use Rattle.congestion.specs.declared.numbers.Numbers.{Numbers}
 use Rattle.congestion.specs.Numbers.{acceptedOf}
 use Rattle.outgoing.specs.declared.kept.Packet.{Packet}
 use Rattle.sent.specs.declared.state.SentPackets.{SentPackets}
 use Rattle.sent_lent.specs.Lent.{wholeIn}
-use Rattle.sent.specs.Laws.Sound.{state-counts}
+use Rattle.sent.specs.Laws.Sound.{CountsOf, state-counts}
 use Rattle.sent.specs.Laws.Transmit.{stateWith, recorded-behind}
 use Rattle.sent_lent.specs.Laws.LentPackets.{packets-512}
 use borrow.Author.Needs.{needs}
@@ -23,7 +23,7 @@ whole c = wholeIn (c .args .self) (now (c .args .samples)) (now (c .args .times)
 full : (c : tie.Start) → length (whole c .packets) ≡ 512
 full c = packets-512 (now (c .args .times)) (now (c .args .sizes)) (now (c .args .marks)) (c .pre .2)
 
-counts : (c : tie.Start) → (whole c .live ≤ 512) × (whole c .live ≤ whole c .count) × (whole c .count ≤ 60000) × (length (take (whole c .live) (whole c .packets)) ≡ whole c .live)
+counts : (c : tie.Start) → CountsOf (whole c)
 counts c = state-counts (whole c) (c .pre .0) (full c)
 
 add-next : tie.Need-add-next

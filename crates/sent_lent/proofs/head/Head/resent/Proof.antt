@@ -1,16 +1,16 @@
 -- `resent` meets its contract: a packet that is kept gets the mark at its place, and of one that is gone nothing is noted.
 use mathlib.Core.Path.{_≡_, ap, ap₂, _∙_}
 use mathlib.Core.List.{List}
-use Prim.Native.Nat.{_≤_, _-_}
+use Prim.Native.Nat.{_-_}
 use native.Mathlib.Omega.{arith}
 use denote.Ref.{now}
-use lib.ListN.{length, take, set}
+use lib.ListN.{length, set}
 use Rattle.congestion.specs.declared.numbers.Numbers.{Numbers}
 use Rattle.outgoing.specs.declared.kept.Packet.{Packet}
 use Rattle.sent.specs.declared.state.SentPackets.{SentPackets}
 use Rattle.sent_lent.specs.Lent.{wholeIn}
 use Rattle.outgoing.specs.Transmit.{withResent}
-use Rattle.sent.specs.Laws.Sound.{state-counts}
+use Rattle.sent.specs.Laws.Sound.{CountsOf, state-counts}
 use Rattle.sent.specs.Laws.Transmit.{stateWith, resent-gone, resent-kept}
 use Rattle.sent_lent.specs.Laws.LentPackets.{packets-512}
 use borrow.Author.Needs.{needs}
@@ -23,7 +23,7 @@ whole c = wholeIn (c .args .self) (now (c .args .samples)) (now (c .args .times)
 full : (c : tie.Start) → length (whole c .packets) ≡ 512
 full c = packets-512 (now (c .args .times)) (now (c .args .sizes)) (now (c .args .marks)) (c .pre .2)
 
-counts : (c : tie.Start) → (whole c .live ≤ 512) × (whole c .live ≤ whole c .count) × (whole c .count ≤ 60000) × (length (take (whole c .live) (whole c .packets)) ≡ whole c .live)
+counts : (c : tie.Start) → CountsOf (whole c)
 counts c = state-counts (whole c) (c .pre .0) (full c)
 
 sub-gone : tie.Need-sub-gone

@@ -1,11 +1,7 @@
--- `window` meets its contract: what the numbers of a sound state say is free.
+-- `window` meets its contract: the free window of its numbers, of a sound state.
+use mathlib.Core.Path.{_∙_}
 use Rattle.outgoing.specs.Read.{windowIn}
-use mathlib.Core.Path.{_≡_, sym, ap, _∙_}
-use mathlib.Core.Bool.{true, false}
-use borrow.Author.Tests.{not-true, not-false}
-use Rattle.sent.specs.State.{stateSoundOf}
-use Rattle.common.specs.Answer.{done}
-use Rattle.sent.specs.Laws.Sound.{unsound-refused, read-sound}
+use Rattle.sent.specs.Laws.Sound.{read-told}
 use Rattle.sent.specs.declared.state.SentPackets.{SentPackets}
 use Rattle.sent_lent.specs.Lent.{wholeIn}
 use borrow.Author.Needs.{needs}
@@ -15,26 +11,20 @@ use Rattle.sent_lent.proofs.head.Head.window.Tie as tie
 abbrev whole : tie.Start → SentPackets
 whole c = wholeIn (c .args .self) (c .args .samples .now) (c .args .times .now) (c .args .sizes .now) (c .args .marks .now)
 
-unsound : (c : tie.Then1) → stateSoundOf (whole (c .before .before)) ≡ false
-unsound c = sym (c .before .sound .ensures) ∙ not-true _ (c .if1 .taken)
-
-sound-here : (c : tie.Else1) → stateSoundOf (whole (c .before .before)) ≡ true
-sound-here c = sym (c .before .sound .ensures) ∙ not-false _ (c .if1 .left)
-
 sound-requires : tie.Need-sound-requires
 sound-requires c κs = search needs
-
-returns : tie.Need-returns
-returns c = sym (unsound-refused _ _ (unsound c))
 
 free-window-requires : tie.Need-free-window-requires
 free-window-requires c κs = search needs
 
-cast-t11 : tie.Need-cast-t11
-cast-t11 c = search needs
+cast-number-told : tie.Need-cast-number-told
+cast-number-told c = search needs
 
-returns-2 : tie.Need-returns-2
-returns-2 c = ap done (c .free-window .ensures) ∙ sym (read-sound _ windowIn (sound-here (c .before .before)))
+number-told-requires : tie.Need-number-told-requires
+number-told-requires c κs = search needs
+
+returns : tie.Need-returns
+returns c = c .number-told .ensures ∙ read-told (whole (c .before .before .before .before)) windowIn _ _ (c .before .before .before .sound .ensures) (λ _. c .before .free-window .ensures)
 
 pub window-spec : {M : Type 1} → statement M
-window-spec = tie.close (tie.spec sound-requires returns free-window-requires cast-t11 returns-2)
+window-spec = tie.close (tie.spec sound-requires free-window-requires cast-number-told number-told-requires returns)
