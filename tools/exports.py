@@ -16,21 +16,22 @@ OWN = "Rattle.ribsaddle.specs."
 HOMES = {
     OWN + "Answer": "numberOf partOr valueOr bitOf",
     OWN + "Codec": "readingOf writingOf writingRoomOf writingSizeOf",
-    OWN + "Parts": "countingOf wholeIn wholeOf partsOf",
+    OWN + "Parts": "countingOf wholeOf partsOf",
     OWN + "declared.receiver.Receiver": "Receiver",
     OWN + "declared.tracker.Tracker": "Tracker",
     OWN + "Tracker": "wholeOf partsOf Sized headingOf seqOf startOf endOf lostNumberOf lostTypeOf lostTagOf newOf transmitOf ackOf timeoutOf soundNumberOf lostAnswer",
     OWN + "Receiver": "countAnswer truthAnswer numberAnswer newOf writeOf readOf takenCountOf sackAnswer",
     "Rattle.sent.specs.State": "readOf",
-    "Rattle.sent.specs.Lent": "wholeIn pairsOf timesOf sizesOf marksOf",
-    "Rattle.sent.specs.Read": "timeoutIn windowIn inFlightIn maximumIn ackNumIn nextSeqNumIn seqNumRangeIn hasUnackedIn lostCountIn hasLostIn",
+    "Rattle.sent_lent.specs.Lent": "wholeIn pairsOf timesOf sizesOf marksOf",
+    "Rattle.outgoing.specs.Read": "timeoutIn windowIn inFlightIn maximumIn ackNumIn nextSeqNumIn seqNumRangeIn hasUnackedIn lostCountIn hasLostIn",
+    "Rattle.recv.specs.Lent": "whole",
     "Rattle.recv.specs.State": "countedOf toldOf numberedOf ackOf writtenBefore emptyOf tableOf",
     "Rattle.recv.specs.Table": "bytesIn howMany freeOf",
     "Rattle.recv.specs.Calls": "writtenRoomOf takenRoomOf takenOutOf ackedRoomOf",
 }
 HIDDEN = {                                       # names that a module of the crate takes from elsewhere
-    "tracker": {OWN + "Parts", OWN + "Receiver", "Rattle.recv.specs.State", "Rattle.recv.specs.Table", "Rattle.recv.specs.Calls"},
-    "receiver": {"Rattle.sent.specs.State", "Rattle.sent.specs.Lent", "Rattle.sent.specs.Read"},
+    "tracker": {OWN + "Parts", OWN + "Receiver", "Rattle.recv.specs.Lent", "Rattle.recv.specs.State", "Rattle.recv.specs.Table", "Rattle.recv.specs.Calls"},
+    "receiver": {"Rattle.sent.specs.State", "Rattle.sent_lent.specs.Lent", "Rattle.outgoing.specs.Read"},
     "codec": set(),
 }
 
@@ -81,12 +82,12 @@ IN_PARTS = {
     "receiver": {
         "fields": "vl",
         "given": ["counts", "receiver-name", "table", "Receiver", "receiver-to", "receiver-one", "(λ t. t .counts)", "(λ t. refl)", "receiver-lawful"],
-        "lent": "w", "result": "countingOf ({})", "sets": ["{} .state .waiting"], "stored": "stored", "next": "next-is",
+        "whole": "whole", "lent": "w", "result": "countingOf ({})", "sets": ["{} .state .waiting"], "stored": "stored", "next": "next-is",
     },
     "tracker": {
         "fields": "vllll",
         "given": ["head", "tracker-name", "samples", "times", "sizes", "marks", "Tracker", "tracker-to", "tracker-one", "(λ t. t .head)", "(λ t. refl)", "tracker-lawful"],
-        "lent": "w x y z", "result": "headingOf ({})",
+        "whole": "wholeIn", "lent": "w x y z", "result": "headingOf ({})",
         "sets": ["pairsOf ({} .state .delays .kept)", "timesOf ({} .state .packets)", "sizesOf ({} .state .packets)", "marksOf ({} .state .packets)"],
         "stored": "sent-stored", "next": "sent-next", "asks": "Sized", "holds": "sized",
     },
@@ -115,7 +116,7 @@ def applied(module, form, shape, state, out, kinds, key, specs):
 
     result, *fills = specs
     lent = parts["lent"]
-    whole = f"(wholeIn c {lent})"
+    whole = f"({parts['whole']} c {lent})"
     after = [(result, " .answer"), (result, " .state"), *((f, "") for f in fills)]
     asks = [f"(λ c {lent}{ys}. {parts['asks']} {lent})"] if form == "PartR" else []
     in_parts = [f"(λ c {lent}{ys}. {x.format(of(result, whole))})" for x in [parts["result"], *parts["sets"]]] + [f"(λ c {lent}{ys}. {of(f, whole)})" for f in fills]
@@ -169,7 +170,7 @@ def promises():
     """The file Promises.antt: a record for each function, in the order of the rows."""
     uses = ["use mathlib.Core.Path.{refl}", "use mir.Syntax.{w8, w16, w32, w64}", "use lib.Ieee.{binary64}"]
     named = {"newOf": {"tracker": "newOf as sent-new", "receiver": "newOf as recv-new"}, "ackOf": {"tracker": "ackOf as sent-ack", "receiver": "ackOf as recv-ack"},
-             "readOf": {"tracker": "readOf as sent-read", "receiver": "readOf as recv-read"}, "wholeIn": {"tracker": "wholeIn as sent-in", "receiver": "wholeIn as recv-in"},
+             "readOf": {"tracker": "readOf as sent-read", "receiver": "readOf as recv-read"},
              "wholeOf": {"tracker": "wholeOf as sent-whole", "receiver": "wholeOf as recv-whole"}, "partsOf": {"tracker": "partsOf as sent-parts", "receiver": "partsOf as recv-parts"}}
     lines = []
     needed, states = {}, set()
