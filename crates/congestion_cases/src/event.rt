@@ -12,7 +12,7 @@ use feed::both;
 // answer, source, in flight, maximum, timeout, round trip, variance.
 pub const WIDTHS: [u8; 13] = [1, 1, 4, 8, 8, 8, 1, 1, 4, 4, 8, 8, 8];
 
-pub fn number_of_reason(reason: Reason) -> u64 {
+pub(crate) fn number_of_reason(reason: Reason) -> u64 {
     match reason {
         Reason::SettingOutOfRange => 10,
         Reason::TimeOutOfRange => 11,
@@ -22,7 +22,7 @@ pub fn number_of_reason(reason: Reason) -> u64 {
     }
 }
 
-pub fn number_of(answer: Answer) -> u64 {
+pub(crate) fn number_of(answer: Answer) -> u64 {
     match answer {
         Answer::Done => 0,
         Answer::Refused(reason) => number_of_reason(reason),
@@ -71,7 +71,7 @@ pub struct Step {
     pub feed: Feed,
 }
 
-pub fn compare(controller: Controller, feed: Feed, window: &mut [u8]) -> Step {
+pub(crate) fn compare(controller: Controller, feed: Feed, window: &mut [u8]) -> Step {
     let mut event = [0u64; 13];
     let behind = feed.numbers(window, &WIDTHS, &mut event);
     let outcome = applied(controller, event);

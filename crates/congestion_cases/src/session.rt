@@ -19,7 +19,7 @@ pub struct Totals {
 }
 
 // The gain of a bit pattern. One with the largest exponent is an infinity or a NaN.
-pub fn gain_of(bits: u64) -> f64 {
+pub(crate) fn gain_of(bits: u64) -> f64 {
     if bits % 9223372036854775808 / 4503599627370496 == 2047 {
         if bits % 4503599627370496 == 0 {
             return 1.0 / 0.0;
@@ -134,7 +134,7 @@ fn replay_all(fd: i32, window: &mut [u8]) -> Totals {
     totals
 }
 
-pub fn replay(fd: i32) -> Totals {
+pub(crate) fn replay(fd: i32) -> Totals {
     let mut window = io::large_buffer();
     replay_all(fd, &mut window)
 }

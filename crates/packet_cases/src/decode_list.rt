@@ -66,7 +66,7 @@ fn counted(tally: Tally, record: &[u8]) -> Tally {
     tally.counted(number(seen, 0, 1), is_whole & is_seen(part(record), seen))
 }
 
-pub fn replay(list: &[u8]) -> Tally {
+pub(crate) fn replay(list: &[u8]) -> Tally {
     let mut tally = Tally::new();
     let mut at = 0;
     for _ in 0..u64::MAX {

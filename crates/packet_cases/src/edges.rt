@@ -189,7 +189,7 @@ fn lengths(tally: Tally) -> Tally {
     length(cut_again, usize::MAX, 6)
 }
 
-pub fn all() -> Tally {
+pub(crate) fn all() -> Tally {
     let mut datagram = [0u8; 65535];
     let long = longest(Tally::new(), &mut datagram);
     let brief = rooms(short(long));

@@ -114,7 +114,7 @@ fn size_of(record: &[u8]) -> usize {
 }
 
 // One record more.
-pub fn counted(tally: Tally, record: &[u8], buffer: &mut [u8]) -> Tally {
+pub(crate) fn counted(tally: Tally, record: &[u8], buffer: &mut [u8]) -> Tally {
     let is_whole = size_of(record) <= record.len();
     let answer = number(seen(record), 4, 1);
     tally.counted(answer, is_whole & is_same(record, buffer))
@@ -134,7 +134,7 @@ fn replay_all(list: &[u8], buffer: &mut [u8]) -> Tally {
     tally
 }
 
-pub fn replay(list: &[u8]) -> Tally {
+pub(crate) fn replay(list: &[u8]) -> Tally {
     let mut buffer = [0u8; 65808];
     replay_all(list, &mut buffer)
 }

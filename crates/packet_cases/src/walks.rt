@@ -106,7 +106,7 @@ fn is_drawn_right(seed: u64, i: u64) -> bool {
     }
 }
 
-pub fn all() -> Tally {
+pub(crate) fn all() -> Tally {
     let mut tally = edges(Tally::new());
     let mut seed = 1;
     for i in 0..4000 {

@@ -25,7 +25,7 @@ pub struct Step {
     pub is_same: bool,
 }
 
-pub fn number_of_refusal(refusal: Refusal) -> u64 {
+pub(crate) fn number_of_refusal(refusal: Refusal) -> u64 {
     match refusal {
         Refusal::RoomTooSmall => 9,
         Refusal::LengthOutOfRange => 10,
@@ -96,7 +96,7 @@ fn numbered(number: Number) -> u64 {
 }
 
 // The event's kind, 1 to 5. A kind that there is not counts as a run, and differs.
-pub fn kind_of(event: &[u8]) -> u64 {
+pub(crate) fn kind_of(event: &[u8]) -> u64 {
     let kind = number(event, 0, 1);
     if kind == 0 || kind > 5 { 5 } else { kind }
 }
@@ -109,7 +109,7 @@ fn read_len(event: &[u8]) -> usize
 }
 
 // How many bytes the event has.
-pub fn size_of(event: &[u8]) -> usize {
+pub(crate) fn size_of(event: &[u8]) -> usize {
     match kind_of(event) {
         1 => 12 + two(event, 3) as usize,
         2 => 15 + read_len(event),
@@ -120,7 +120,7 @@ pub fn size_of(event: &[u8]) -> usize {
 }
 
 // The recorded answer.
-pub fn answer_of(event: &[u8]) -> u64 {
+pub(crate) fn answer_of(event: &[u8]) -> u64 {
     match kind_of(event) {
         1 => number(behind_part(behind(event, 3)), 0, 1),
         2 => number(event, 5, 1),
@@ -263,7 +263,7 @@ fn is_answered(state: ReceiveBuffer, event: &[u8], out: &mut [u8]) -> bool {
 }
 
 // Does what the event says, and compares.
-pub fn compare(state: ReceiveBuffer, event: &[u8], buf: &mut [u8], out: &mut [u8]) -> Step {
+pub(crate) fn compare(state: ReceiveBuffer, event: &[u8], buf: &mut [u8], out: &mut [u8]) -> Step {
     match number(event, 0, 1) {
         1 => write(state, event, buf),
         2 => read(state, event, buf, out),

@@ -136,7 +136,7 @@ fn replay_all(list: &[u8], kind: u64, buffer: &mut [u8], out: &mut [u8]) -> Tall
     stand.tally
 }
 
-pub fn replay(list: &[u8], kind: u64) -> Tally {
+pub(crate) fn replay(list: &[u8], kind: u64) -> Tally {
     let mut buffer = io::large_buffer();
     let mut out = io::large_buffer();
     replay_all(list, kind, &mut buffer, &mut out)
