@@ -2,4 +2,5 @@
 pub mod Trip
 pub mod Window
 pub mod Numbers
+pub mod Hold
 pub mod Rust

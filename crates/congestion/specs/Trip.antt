@@ -1,16 +1,15 @@
 -- Round trip, variance and timeout (document 01, "A newly acknowledged packet", 5; BEP 29 facts, section 5). Definitions only.
 use Prim.Native.Nat.{ℕ, _+_, _*_, max}
-use lib.IntN.{ℤ, pos, negsuc, natAbs, subℕ, _+ℤ_}
+use lib.IntN.{ℤ, pos, natAbs, subℕ, _+ℤ_}
 use lib.Signed.{quotZ}
 
--- A result below 0 is held at 0.
-abbrev pub heldAtZero : ℤ → ℕ
-heldAtZero (pos n) = n
-heldAtZero (negsuc n) = 0
+-- old moves by (to - old) / share: a signed whole number, the quotient truncated toward zero.
+abbrev pub moveOf : ℕ → ℕ → ℕ → ℤ
+moveOf share old to = pos old +ℤ quotZ (subℕ to old) (pos share)
 
--- old moves by (to - old) / share, a signed division truncated toward zero.
+-- The same as a number from 0 up. No move goes below 0 (Laws/Trip, `moved-exact`), so that its size is the move itself and nothing is held.
 unfoldable pub movedOf : ℕ → ℕ → ℕ → ℕ
-movedOf share old to = heldAtZero (pos old +ℤ quotZ (subℕ to old) (pos share))
+movedOf share old to = natAbs (moveOf share old to)
 
 -- With r, v the old round trip and variance and p the packet's own: v moves by (|r - p| - v) / 4,
 abbrev pub varianceOf : ℕ → ℕ → ℕ → ℕ

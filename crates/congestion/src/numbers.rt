@@ -170,8 +170,8 @@ impl Numbers {
         requires { ⌜ (soundOf self ≡ true) × (trip ≤ 2 ^ 50) ⌝ }
         ensures { λ r. ⌜ r ≡ timedOf self trip ⌝ }
     {
-        let moved = trip::moved(self.trip, trip, 8);
-        let variance = trip::moved(self.variance, trip::apart(self.trip, trip), 4);
+        let moved = trip::next_trip(self.trip, trip);
+        let variance = trip::next_variance(self.trip, self.variance, trip);
         let mut next = self;
         next.trip = moved;
         next.variance = variance;

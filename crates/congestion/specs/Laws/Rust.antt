@@ -15,9 +15,9 @@ use lib.Ieee.Back.{round-whole}
 use lib.Ieee.Scale.{round-same}
 use lib.Ieee.Nearest.{div-same}
 use borrow.Author.Tests.{lt-ltb, le-ltb, ltb-true, ltb-false, ne-eqb}
-use Rattle.congestion.specs.Trip.{heldAtZero, movedOf}
+use Rattle.congestion.specs.Trip.{movedOf}
 use Rattle.congestion.specs.Rust.{rustMoveOf}
-use Rattle.congestion.specs.Laws.Trip.{sub-from-above, sub-from-below, apart-at-most}
+use Rattle.congestion.specs.Laws.Trip.{sub-from-above, sub-from-below, apart-at-most, moved-exact}
 
 -- a whole number of up to 53 digits is held as it is
 pub held-whole : (s : Bool) (n : ℕ) → n ≤ 2 ^ 53 → HasValue (round binary64 s n 1) s n 1
@@ -169,11 +169,10 @@ quarter-agrees = agrees 4 (omega arith) (omega arith) quarter-exact
 pub eighth-agrees : (old to : ℕ) → old ≤ 2 ^ 50 → to ≤ 2 ^ 50 → rustMoveOf 8 old to ≡ quotZ (subℕ to old) (pos 8)
 eighth-agrees = agrees 8 (omega arith) (omega arith) eighth-exact
 
--- So the definitions' variance and round trip are what the Rust's f64 work gives.
-pub variance-as-in-rust : (v to : ℕ) → v ≤ 2 ^ 50 → to ≤ 2 ^ 50 → movedOf 4 v to ≡ heldAtZero (pos v +ℤ rustMoveOf 4 v to)
-unfolding movedOf
-variance-as-in-rust v to h k = ap (λ (z : ℤ). heldAtZero (pos v +ℤ z)) (sym (quarter-agrees v to h k))
+-- So the definitions' variance and round trip are the old ones plus what the Rust's f64 work gives, as signed whole numbers. Neither sum is below
+-- 0: the Rust's saturating subtraction never saturates.
+pub variance-as-in-rust : (v to : ℕ) → v ≤ 2 ^ 50 → to ≤ 2 ^ 50 → pos (movedOf 4 v to) ≡ pos v +ℤ rustMoveOf 4 v to
+variance-as-in-rust v to h k = moved-exact 4 v to ∙ ap (λ (z : ℤ). pos v +ℤ z) (sym (quarter-agrees v to h k))
 
-pub trip-as-in-rust : (r p : ℕ) → r ≤ 2 ^ 50 → p ≤ 2 ^ 50 → movedOf 8 r p ≡ heldAtZero (pos r +ℤ rustMoveOf 8 r p)
-unfolding movedOf
-trip-as-in-rust r p h k = ap (λ (z : ℤ). heldAtZero (pos r +ℤ z)) (sym (eighth-agrees r p h k))
+pub trip-as-in-rust : (r p : ℕ) → r ≤ 2 ^ 50 → p ≤ 2 ^ 50 → pos (movedOf 8 r p) ≡ pos r +ℤ rustMoveOf 8 r p
+trip-as-in-rust r p h k = moved-exact 8 r p ∙ ap (λ (z : ℤ). pos r +ℤ z) (sym (eighth-agrees r p h k))

@@ -1,4 +1,4 @@
--- How a round trip and a variance move: by a part of the way, never past the other end, so that the hold at zero changes nothing.
+-- How a round trip and a variance move: by a part of the way, never past the other end, and so never below 0.
 use mathlib.Core.Path.{_≡_, refl, ap, _∙_, subst⁻¹}
 use Prim.Native.Nat.{ℕ, zero, suc, _+_, _-_, _/_, _≤_, _<_}
 use native.Mathlib.Nat.{div-le-self}
@@ -6,9 +6,9 @@ use native.Mathlib.Omega.{arith}
 use mathlib.Core.Bool.{Bool, true, false, cond}
 use lib.Dec.{T, ltb}
 use lib.IntN.{ℤ, pos, negsuc, natAbs, negℤ, subℕ, _+ℤ_}
-use lib.Signed.{quotZ, nonNeg}
+use lib.Signed.{quotZ, nonNeg, pos-natAbs}
 use borrow.Author.Tests.{lt-ltb, le-ltb, ltb-true, ltb-false}
-use Rattle.congestion.specs.Trip.{heldAtZero, movedOf}
+use Rattle.congestion.specs.Trip.{moveOf, movedOf}
 
 -- ---- differences of two naturals
 
@@ -24,31 +24,46 @@ apart-from-above a b h = ap natAbs (sub-from-above a b h)
 pub apart-from-below : (a b : ℕ) → a < b → natAbs (subℕ a b) ≡ b - a
 apart-from-below a b h = ap natAbs (sub-from-below a b h) ∙ omega arith
 
--- the difference, or 0
-pub held-sub : (a b : ℕ) → heldAtZero (subℕ a b) ≡ a - b
-held-sub a b = by-test (ltb a b) refl
-  where
-    by-test : (t : Bool) → ltb a b ≡ t → heldAtZero (subℕ a b) ≡ a - b
-    by-test true e = ap heldAtZero (sub-from-below a b (ltb-true a b e)) ∙ omega (arith, ltb-true a b e)
-    by-test false e = ap heldAtZero (sub-from-above a b (ltb-false a b e))
-
 -- ---- a move
+
+-- A part of the way down is never more than the whole, so that the difference below is exact.
+pub fall-at-most : (share old to : ℕ) → to < old → (old - to) / share ≤ old
+fall-at-most share old to h = omega (arith, div-le-self (old - to) share)
+
+less : (a k : ℕ) → k ≤ a → pos a +ℤ negℤ (pos k) ≡ pos (a - k)
+less a zero h = ap pos (omega arith)
+less a (suc k) h = sub-from-above a (suc k) h
+
+move-up : (share old to : ℕ) → old ≤ to → moveOf share old to ≡ pos (old + (to - old) / share)
+move-up share old to h = ap (λ (z : ℤ). pos old +ℤ quotZ z (pos share)) (sub-from-above to old h)
+
+move-down : (share old to : ℕ) → to < old → moveOf share old to ≡ pos (old - (old - to) / share)
+move-down share old to h =
+    let e : suc (old - suc to) ≡ old - to = omega arith in
+    ap (λ (z : ℤ). pos old +ℤ quotZ z (pos share)) (sub-from-below to old h)
+    ∙ ap (λ (n : ℕ). pos old +ℤ negℤ (pos (n / share))) e
+    ∙ less old ((old - to) / share) (fall-at-most share old to h)
+
+-- No move goes below 0, for any numbers at all.
+pub move-from-zero : (share old to : ℕ) → T (nonNeg (moveOf share old to))
+move-from-zero share old to = by-test (ltb to old) refl
+  where
+    by-test : (t : Bool) → ltb to old ≡ t → T (nonNeg (moveOf share old to))
+    by-test true e = subst⁻¹ (λ (z : ℤ). T (nonNeg z)) (move-down share old to (ltb-true to old e)) tt
+    by-test false e = subst⁻¹ (λ (z : ℤ). T (nonNeg z)) (move-up share old to (ltb-false to old e)) tt
+
+-- So what is kept is the signed move itself.
+pub moved-exact : (share old to : ℕ) → pos (movedOf share old to) ≡ moveOf share old to
+unfolding movedOf
+moved-exact share old to = pos-natAbs (moveOf share old to) (move-from-zero share old to)
 
 pub moved-up : (share old to : ℕ) → old ≤ to → movedOf share old to ≡ old + (to - old) / share
 unfolding movedOf
-moved-up share old to h = ap (λ (z : ℤ). heldAtZero (pos old +ℤ quotZ z (pos share))) (sub-from-above to old h)
-
-less : (a k : ℕ) → heldAtZero (pos a +ℤ negℤ (pos k)) ≡ a - k
-less a zero = omega arith
-less a (suc k) = held-sub a (suc k)
+moved-up share old to h = ap natAbs (move-up share old to h)
 
 pub moved-down : (share old to : ℕ) → to < old → movedOf share old to ≡ old - (old - to) / share
 unfolding movedOf
-moved-down share old to h =
-    let e : suc (old - suc to) ≡ old - to = omega arith in
-    ap (λ (z : ℤ). heldAtZero (pos old +ℤ quotZ z (pos share))) (sub-from-below to old h)
-    ∙ ap (λ (n : ℕ). heldAtZero (pos old +ℤ negℤ (pos (n / share)))) e
-    ∙ less old ((old - to) / share)
+moved-down share old to h = ap natAbs (move-down share old to h)
 
 -- Neither end is passed.
 pub moved-at-most : (share old to bound : ℕ) → old ≤ bound → to ≤ bound → movedOf share old to ≤ bound
@@ -66,18 +81,3 @@ apart-at-most a b bound h k = by-test (ltb a b) refl
     by-test : (t : Bool) → ltb a b ≡ t → natAbs (subℕ a b) ≤ bound
     by-test true e = omega (arith, apart-from-below a b (ltb-true a b e))
     by-test false e = omega (arith, apart-from-above a b (ltb-false a b e))
-
--- The hold at zero is never used: the part of the way down is never more than the whole.
-pub hold-unused : (share old to : ℕ) → T (nonNeg (pos old +ℤ quotZ (subℕ to old) (pos share)))
-hold-unused share old to = by-test (ltb to old) refl
-  where
-    never-below : (a k : ℕ) → k ≤ a → T (nonNeg (pos a +ℤ negℤ (pos k)))
-    never-below a zero h = tt
-    never-below a (suc k) h = subst⁻¹ (λ (z : ℤ). T (nonNeg z)) (sub-from-above a (suc k) h) tt
-
-    by-test : (t : Bool) → ltb to old ≡ t → T (nonNeg (pos old +ℤ quotZ (subℕ to old) (pos share)))
-    by-test true e =
-        let l = ltb-true to old e in
-        subst⁻¹ (λ (z : ℤ). T (nonNeg (pos old +ℤ quotZ z (pos share)))) (sub-from-below to old l)
-        (never-below old (suc (old - suc to) / share) (omega (arith, div-le-self (suc (old - suc to)) share)))
-    by-test false e = subst⁻¹ (λ (z : ℤ). T (nonNeg (pos old +ℤ quotZ z (pos share)))) (sub-from-above to old (ltb-false to old e)) tt
