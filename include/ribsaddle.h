@@ -130,7 +130,7 @@ uint32_t ribsaddle_sent_window(const ribsaddle_sent *sent, uint64_t *value);    
 uint32_t ribsaddle_sent_in_flight(const ribsaddle_sent *sent, uint64_t *value);     /* the bytes in flight */
 uint32_t ribsaddle_sent_maximum(const ribsaddle_sent *sent, uint64_t *value);       /* the maximum of the window */
 uint32_t ribsaddle_sent_lost_count(const ribsaddle_sent *sent, uint64_t *value);    /* how many packets are lost */
-uint32_t ribsaddle_sent_ack_num(const ribsaddle_sent *sent, uint64_t *value);       /* the last number of the acknowledged run, or 0 if none */
+uint32_t ribsaddle_sent_ack_num(const ribsaddle_sent *sent, uint64_t *value);       /* the last number of the acknowledged run, or 0 if none (a packet can have number 0, too) */
 uint32_t ribsaddle_sent_next_seq_num(const ribsaddle_sent *sent, uint64_t *value);  /* the number of the next packet */
 uint32_t ribsaddle_sent_has_unacked(const ribsaddle_sent *sent, uint64_t *value);   /* 1 where a packet is not acknowledged, else 0 */
 uint32_t ribsaddle_sent_has_lost(const ribsaddle_sent *sent, uint64_t *value);      /* 1 where a packet is lost, else 0 */
@@ -153,7 +153,10 @@ typedef struct ribsaddle_recv {
 /* A receiver for payloads after initial, over a buffer of length bytes (1 to 65,536) that the caller keeps and lends to write and read. Refuses with 10. */
 uint32_t ribsaddle_recv_new(ribsaddle_recv *recv, uint16_t initial, size_t length);
 
-/* Stores a payload under a number; one that is already there changes nothing. Refuses with 19, 18, 15, 16, 17. */
+/* Stores a payload under a number; one that is already there changes nothing. Refuses with 19, 18, 15, 16, 17.
+ * Write the payloads of Data and Fin packets only. A State uses up no number: it carries the one that the next Data
+ * will have. Once it is written, that number is already there, and the Data changes nothing and is never read. The
+ * same goes for Reset and Syn. */
 uint32_t ribsaddle_recv_write(ribsaddle_recv *recv, uint8_t *buf, size_t buf_len, uint16_t number, const uint8_t *payload, size_t payload_len);
 
 /* Reads the oldest ready bytes into out, as many as there are and fit, and how many to *count. Refuses with 19, 18. */

@@ -41,12 +41,26 @@ fi
 strict="-std=c11 -Wall -Wextra -Werror -O2 -Iinclude"
 $C_COMPILER $strict tests/c/header.c "$library" -o "$room/header"
 $emulated "$room/header"
-$C_COMPILER $strict examples/c/transfer.c "$library" -o "$room/transfer"
-if [ -n "$emulated" ]; then
-  $emulated -s 262144 "$room/transfer"      # a stack of 256 KB: the header says how much a call takes
-else
-  (ulimit -s 256 && "$room/transfer")
+# transfer FLAGS...: the C example, compiled with these. Its stack is 256 KB: the header says how much a call takes.
+transfer() {
+  $C_COMPILER $strict "$@" examples/c/transfer.c "$library" -o "$room/transfer"
+  if [ -n "$emulated" ]; then
+    timeout 300 $emulated -s 262144 "$room/transfer"
+  else
+    (ulimit -s 256 && timeout 300 "$room/transfer")
+  fi
+}
+transfer
+# All up to the packet with number 0 is acknowledged, and the next one is lost: datagram 273 is that packet.
+transfer -DTOTAL=137000 '-DIS_LOST(n)=((n) == 273)'
+# The first packets are lost again and again: a timeout with no acknowledged run.
+transfer -DTOTAL=137000 '-DIS_LOST(n)=((n) <= 5)'
+# A channel that loses all: the example ends, and says so.
+if transfer -DTOTAL=3000 '-DIS_LOST(n)=((n) > 0)' > "$room/said"; then
+  echo "header_test.sh: a transfer of which nothing arrived ended well"
+  exit 1
 fi
+grep -q WRONG "$room/said"
 if [ "$(wc -l < examples/c/transfer.c)" -ge 100 ]; then
   echo "header_test.sh: examples/c/transfer.c has 100 lines or more"
   exit 1

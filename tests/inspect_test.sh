@@ -1,6 +1,6 @@
 #!/bin/sh
 # What `inspect` does with input that its own sample has not: standard input, no bytes, bytes left over, the longest
-# datagram, a file that cannot be opened.
+# datagram; then the statuses and messages of the script ./inspect.
 set -eu
 here=$(cd "$(dirname "$0")/.." && pwd)
 (cd "$here" && rt check inspect) > /dev/null
@@ -50,10 +50,12 @@ seq 0 8191 | sed 's/$/ 1/' > "$room/wanted"
 inspect "$room/many" > "$room/wrote"
 same "8,192 lines" "$room/wanted"
 
-inspect "$room/none" > "$room/wrote" 2> "$room/said"
-same "no such file: no line" /dev/null
-grep -q "none: No such file" "$room/said" || { echo "inspect_test.sh: no such file: no message"; failed=1; }
-inspect "$room" > "$room/wrote" 2> "$room/said"
-same "a folder: no line" /dev/null
-[ -s "$room/said" ] || { echo "inspect_test.sh: a folder: no message"; failed=1; }
+. "$here/tests/program.sh"
+statuses inspect "$sample" "$lines"
+case_of "bytes left over" 0 sh -c 'printf "\000" | "$0"' "$here/inspect"
+same "bytes left over are a result" "$room/cut"
+# A program that needs two files, as one that compares would.
+case_of "one file of two" 2 bash -c '. "$0/tools/program.sh"; program inspect "FIRST SECOND" none none "$@"' "$here" "$sample"
+held "it is said" grep -q "1 files are named, and it takes 2" "$room/said"
+[ "$failed" -ne 0 ] || echo "inspect_test.sh: statuses: ok"
 exit "$failed"

@@ -1,5 +1,6 @@
 #!/bin/sh
-# Holds what `replay` prints against recorded sessions, and against document 02 for files that it refuses (tests/replay.py).
+# Holds what `replay` prints against recorded sessions, and against document 02 for files that it refuses (tests/replay.py);
+# then the statuses and messages of the script ./replay.
 set -eu
 here=$(cd "$(dirname "$0")/.." && pwd)
 (cd "$here" && rt check replay) > /dev/null
@@ -8,9 +9,10 @@ python3 "$here/tests/replay.py" $run "$here/target/bin/replay"
 room=$(mktemp -d)
 trap 'rm -rf "$room"' EXIT
 
-# The script of the root: the same lines, and an exit status that is not 0 where the program has a failure to tell.
-"$here/replay" "$here/crates/replay/data/sample.session" > "$room/wrote"
-cmp "$room/wrote" "$here/crates/replay/stdout"
-[ "$(printf 'damaged' | "$here/replay")" = "bad 20" ]
-if "$here/replay" "$room/none" > "$room/wrote" 2> "$room/said"; then echo "replay_test.sh: no such file: exit status 0"; exit 1; fi
-[ ! -s "$room/wrote" ] && grep -q "none: No such file" "$room/said"
+failed=0
+. "$here/tests/program.sh"
+statuses replay "$here/crates/replay/data/sample.session" "$here/crates/replay/stdout"
+case_of "a refused session is a result" 0 sh -c 'printf damaged | "$0"' "$here/replay"
+held "its line" [ "$(cat "$room/wrote")" = "bad 20" ]
+[ "$failed" -ne 0 ] || echo "replay_test.sh: statuses: ok"
+exit "$failed"

@@ -44,6 +44,7 @@ fn main() -> Result<(), Error> {
 
     while arrived.len() < file.len() || sent.has_unacked_packets() {
         now += Duration::from_millis(10);
+        assert!(now < Duration::from_secs(600), "the transfer does not end");
         let data = |number: u16, piece: usize| {
             PacketBuilder::new(PacketType::Data, CONNECTION, 0, 65_536, number).payload(pieces[piece]).build()
         };
@@ -68,7 +69,9 @@ fn main() -> Result<(), Error> {
         // The far end stores what arrives, reads, and acknowledges.
         for datagram in there.drain(..) {
             let packet = Packet::decode(&datagram)?;
-            received.write(packet.payload(), packet.seq_num())?;
+            if matches!(packet.packet_type(), PacketType::Data | PacketType::Fin) {
+                received.write(packet.payload(), packet.seq_num())?; // no other packet is in the stream
+            }
             let (mut out, mut room) = ([0; 700], [0; 32]);
             while received.ready() > 0 {
                 let count = received.read(&mut out);
@@ -82,6 +85,8 @@ fn main() -> Result<(), Error> {
         }
         for datagram in back.drain(..) {
             let packet = Packet::decode(&datagram)?;
+            // An ack of nothing (the initial number) would be refused. After one that is accepted, `ack_num` is the
+            // number of a packet; before, its 0 means that there is none.
             if packet.ack_num() != first {
                 sent.on_ack(packet.ack_num(), packet.selective_ack(), Duration::from_millis(20), now)?;
                 acked = sent.ack_num();

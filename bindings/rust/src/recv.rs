@@ -92,6 +92,24 @@ impl<const N: usize> ReceiveBuffer<N> {
     }
 
     /// Writes `data` into the buffer at `seq_num`; where it was already written, nothing changes. Refuses with 15, 16, 17.
+    ///
+    /// Write the payloads of Data and Fin packets only. A State uses up no number: it carries the one that the
+    /// next Data will have. Once it is written, so is that number, and the Data changes nothing and is never
+    /// read. The same goes for Reset and Syn.
+    ///
+    /// ```
+    /// # use ribsaddle::{Error, PacketBuilder, PacketType, ReceiveBuffer};
+    /// let mut received = ReceiveBuffer::<1_024>::new(0)?;
+    /// let state = PacketBuilder::new(PacketType::State, 7, 0, 0, 1).build();
+    /// let data = PacketBuilder::new(PacketType::Data, 7, 0, 0, 1).payload(b"chart").build();
+    /// for packet in [state, data] {
+    ///     if matches!(packet.packet_type(), PacketType::Data | PacketType::Fin) {
+    ///         received.write(packet.payload(), packet.seq_num())?;
+    ///     }
+    /// }
+    /// assert_eq!(received.ready(), 5);
+    /// # Ok::<(), Error>(())
+    /// ```
     pub fn write(&mut self, data: &[u8], seq_num: u16) -> Result<(), Error> {
         answered(unsafe {
             raw::ribsaddle_recv_write(

@@ -102,7 +102,8 @@ impl SentPackets {
         self.told(raw::ribsaddle_sent_next_seq_num) as u16
     }
 
-    /// Returns the last number of the acknowledged run, or 0 if there is none.
+    /// Returns the last number of the acknowledged run, or 0 if there is none. 0 can be a packet's number too;
+    /// there is a run once an ack was accepted.
     pub fn ack_num(&self) -> u16 {
         self.told(raw::ribsaddle_sent_ack_num) as u16
     }
