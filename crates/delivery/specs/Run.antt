@@ -8,8 +8,8 @@ use mathlib.Core.Logic.{_⊎_}
 use lib.Dec.{leb}
 use lib.ListN.{length, take, getD, replicate}
 use Rattle.common.specs.Answer.{Answer, done, refused}
-use Rattle.wire.specs.declared.seq.SeqNum.{SeqNum}
-use Rattle.wire.specs.declared.kind.PacketType.{PacketType}
+use Rattle.seq.specs.declared.SeqNum.{SeqNum}
+use Rattle.packet.specs.declared.kind.PacketType.{PacketType}
 use Rattle.congestion.specs.declared.settings.Settings.{Settings}
 use Rattle.sent.specs.declared.state.SentPackets.{SentPackets}
 use Rattle.outgoing.specs.Tracker.{Tracker, goneOf, offsetIn}

@@ -1,11 +1,10 @@
 // Document 01's number of each answer of the codec.
 ghost use mathlib.Core.Path.{_≡_};
-ghost use Rattle.wire.specs.Answers.{sackNumber};
-ghost use Rattle.packet.specs.Answers.{headerNumber, reasonNumber, unwrittenNumber};
+ghost use Rattle.packet.specs.Answers.{sackNumber, headerNumber, reasonNumber, unwrittenNumber};
 use packet::decode::Reason;
 use packet::encode::Unwritten;
 use packet::header::HeaderReason;
-use wire::sack::SackReason;
+use packet::sack::SackReason;
 
 pub fn of_header(reason: HeaderReason) -> u64
     ensures { λ r. ⌜ r ≡ headerNumber reason ⌝ }

@@ -3,9 +3,9 @@
 use Prim.Native.Nat.{ℕ}
 use mathlib.Core.Bool.{Bool}
 use Rattle.common.specs.Answer.{Answer, done, refused}
-use Rattle.wire.specs.Answers.{sackNumber}
-use Rattle.wire.specs.declared.seq.SeqNum.{SeqNum}
-use Rattle.wire.specs.declared.seq.CircularRangeInclusive.{CircularRangeInclusive}
+use Rattle.packet.specs.Answers.{sackNumber}
+use Rattle.seq.specs.declared.SeqNum.{SeqNum}
+use Rattle.seq.specs.declared.CircularRangeInclusive.{CircularRangeInclusive}
 use Rattle.outgoing.specs.declared.answer.Reason.{Reason}
 use Rattle.outgoing.specs.declared.answer.Reason.the-variants.{BadSack, BadSetting, BadTime, NotSent, NoWindow, NoPlace, TooMany, NotSound}
 use Rattle.outgoing.specs.declared.answer.Outcome.{Outcome}

@@ -5,7 +5,7 @@ use mathlib.Core.Bool.{Bool, _&&_, cond}
 use mathlib.Core.List.{List, [], _∷_, _++_}
 use lib.Dec.{leb, ltb, eqb}
 use lib.ListN.{getD, set, take, drop}
-use Rattle.wire.specs.Sack.{bitOf}
+use Rattle.packet.specs.Sack.{bitOf}
 use Rattle.congestion.specs.declared.numbers.Numbers.{Numbers}
 use Rattle.outgoing.specs.declared.kept.Packet.{Packet}
 use Rattle.outgoing.specs.declared.ack.Ack.{Ack}

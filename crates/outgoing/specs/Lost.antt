@@ -6,9 +6,9 @@ use lib.Dec.{leb, ltb, eqb}
 use lib.Seq.{slice}
 use lib.ListN.{length, getD}
 use Rattle.common.specs.Answer.{Answer, done, refused}
-use Rattle.wire.specs.declared.seq.SeqNum.{SeqNum}
-use Rattle.wire.specs.Seq.{plusOf}
-use Rattle.wire.specs.Kind.{typeOf}
+use Rattle.seq.specs.declared.SeqNum.{SeqNum}
+use Rattle.seq.specs.Seq.{plusOf}
+use Rattle.packet.specs.Kind.{typeOf}
 use Rattle.outgoing.specs.declared.kept.Packet.{Packet}
 use Rattle.outgoing.specs.declared.answer.LostPacket.{LostPacket}
 use Rattle.outgoing.specs.Tracker.{Tracker, goneOf, noPacket}

@@ -7,8 +7,8 @@ use lib.IntN.{pos}
 use lib.Ieee.{fin}
 use Rattle.common.specs.Answer.{Answer, done, refused}
 use Rattle.common.specs.Case.{Case}
-use Rattle.wire.specs.declared.seq.SeqNum.{SeqNum}
-use Rattle.wire.specs.declared.kind.PacketType.the-variants.{Data}
+use Rattle.seq.specs.declared.SeqNum.{SeqNum}
+use Rattle.packet.specs.declared.kind.PacketType.the-variants.{Data}
 use Rattle.congestion.specs.declared.settings.Settings.{Settings}
 use Rattle.congestion.specs.Numbers.{startOf}
 use Rattle.controller.specs.Delays.{noDelays}

@@ -5,9 +5,9 @@ use mathlib.Core.List.{List, [], _∷_}
 use lib.Dec.{eqb, ltb}
 use lib.ListN.{length}
 use Rattle.common.specs.Answer.{Answer, done, refused}
-use Rattle.wire.specs.declared.seq.SeqNum.{SeqNum}
-use Rattle.wire.specs.declared.seq.CircularRangeInclusive.{CircularRangeInclusive}
-use Rattle.wire.specs.Seq.{plusOf}
+use Rattle.seq.specs.declared.SeqNum.{SeqNum}
+use Rattle.seq.specs.declared.CircularRangeInclusive.{CircularRangeInclusive}
+use Rattle.seq.specs.Seq.{plusOf}
 use Rattle.congestion.specs.Numbers.{freeOf}
 use Rattle.outgoing.specs.declared.kept.Packet.{Packet}
 use Rattle.outgoing.specs.Loss.{isUnacked}

@@ -6,8 +6,8 @@ use mathlib.Core.List.{List}
 use lib.Dec.{leb, ltb}
 use lib.ListN.{length, getD, set}
 use Rattle.common.specs.Answer.{Answer, done, refused}
-use Rattle.wire.specs.declared.seq.SeqNum.{SeqNum}
-use Rattle.wire.specs.Seq.{offsetOf}
+use Rattle.seq.specs.declared.SeqNum.{SeqNum}
+use Rattle.seq.specs.Seq.{offsetOf}
 use Rattle.congestion.specs.declared.numbers.Numbers.{Numbers}
 use Rattle.controller.specs.declared.delays.Delays.{Delays}
 use Rattle.congestion.specs.Settings.{latest}

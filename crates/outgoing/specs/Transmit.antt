@@ -5,9 +5,9 @@ use mathlib.Core.List.{[], _∷_, _++_}
 use lib.Dec.{leb, ltb}
 use lib.ListN.{length}
 use Rattle.common.specs.Answer.{Answer, done, refused, _then_}
-use Rattle.wire.specs.declared.seq.SeqNum.{SeqNum}
-use Rattle.wire.specs.declared.kind.PacketType.{PacketType}
-use Rattle.wire.specs.Kind.{typeNumber}
+use Rattle.seq.specs.declared.SeqNum.{SeqNum}
+use Rattle.packet.specs.declared.kind.PacketType.{PacketType}
+use Rattle.packet.specs.Kind.{typeNumber}
 use Rattle.congestion.specs.declared.numbers.Numbers.{Numbers}
 use Rattle.congestion.specs.Numbers.{freeOf, transmittedOf}
 use Rattle.outgoing.specs.declared.kept.Packet.{Packet}

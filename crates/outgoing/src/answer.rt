@@ -1,8 +1,8 @@
 // What the tracker's functions answer. Each refusal holds its reason.
-use wire::kind::PacketType;
-use wire::sack::SackReason;
-use wire::seq::CircularRangeInclusive;
-use wire::seq::SeqNum;
+use packet::kind::PacketType;
+use packet::sack::SackReason;
+use seq::CircularRangeInclusive;
+use seq::SeqNum;
 
 // Why a call was refused: a SACK of a wrong length (5, 6, 8), a setting out of range (10), a time or
 // delay above 2^50 or a clock before the last accepted one (11), a number that was not sent or a

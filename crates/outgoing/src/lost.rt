@@ -1,7 +1,7 @@
 // Of a lost packet: its type, and where the numbers past the wrap begin.
-use wire::kind::PacketType;
+use packet::kind::PacketType;
 ghost use mathlib.Core.Path.{_≡_};
-ghost use Rattle.wire.specs.Kind.{typeOf};
+ghost use Rattle.packet.specs.Kind.{typeOf};
 ghost use Rattle.outgoing.specs.Lost.{wrapPlace};
 
 // The type of a number up to 4.

@@ -4,13 +4,41 @@ use mathlib.Core.List.{List}
 use mathlib.Core.Path.{_∙_, sym}
 use denote.Ref.{now}
 use Rattle.common.specs.Promise.{Promise, by-value, by-code}
-use Rattle.packet.specs.Answers.{decoded, encoded}
-use Rattle.packet.specs.Laws.OneToOne.{decoded-one-to-one, encoded-one-to-one}
+use Rattle.packet.specs.Answers.{typeRead, checked, decoded, encoded}
+use Rattle.packet.specs.Laws.OneToOne.{typeRead-one-to-one, checked-one-to-one, decoded-one-to-one, encoded-one-to-one}
 use Rattle.packet.specs.declared.encode.Encoded.{Encoded}
+use Rattle.packet.proofs.kind.PacketType.number.Reads as number
+use Rattle.packet.proofs.kind.PacketType.of_number.Reads as of-number
+use Rattle.packet.proofs.sack.check.Reads as check
+use Rattle.packet.proofs.sack.bit_count.Reads as bit-count
+use Rattle.packet.proofs.sack.is_set.Reads as is-set
+use Rattle.packet.proofs.sack.meant.Reads as meant
 use Rattle.packet.proofs.extension.Part.bytes.Reads as bytes
 use Rattle.packet.proofs.extension.Cursor.step.Reads as step
 use Rattle.packet.proofs.decode.Packet.decode.Reads as decode
 use Rattle.packet.proofs.decode.Packet.encode.Reads as encode
+
+-- ---- kind
+
+number-promise : Promise number.Pre number.Post (λ κs r s. r)
+number-promise = by-value _ (λ κs a. tt) (λ κs a r s p. p)
+
+of-number-promise : Promise of-number.Pre of-number.Post (λ κs r s. r)
+of-number-promise = by-code typeRead typeRead-one-to-one _ (λ κs a. tt) (λ κs a r s p. p)
+
+-- ---- sack
+
+check-promise : Promise check.Pre check.Post (λ κs r s. r)
+check-promise = by-code checked checked-one-to-one _ (λ κs a. tt) (λ κs a r s p. p)
+
+bit-count-promise : Promise bit-count.Pre bit-count.Post (λ κs r s. r)
+bit-count-promise = by-value _ (λ κs a. tt) (λ κs a r s p. p)
+
+is-set-promise : Promise is-set.Pre is-set.Post (λ κs r s. r)
+is-set-promise = by-value _ (λ κs a. tt) (λ κs a r s p. p)
+
+meant-promise : Promise meant.Pre meant.Post (λ κs r s. r)
+meant-promise = by-value _ (λ κs a. tt) (λ κs a r s p. p)
 
 -- ---- extension
 

@@ -2,7 +2,13 @@
 -- same number and values. Definitions only.
 use Prim.Native.Nat.{ℕ}
 use Rattle.common.specs.Answer.{Answer, done, refused}
-use Rattle.wire.specs.Answers.{sackNumber}
+use Rattle.packet.specs.declared.kind.PacketType.{PacketType}
+use Rattle.packet.specs.declared.kind.TypeRead.{TypeRead}
+use Rattle.packet.specs.declared.kind.TypeRead.the-variants.{Known, Unknown}
+use Rattle.packet.specs.declared.sack.SackReason.{SackReason}
+use Rattle.packet.specs.declared.sack.SackReason.the-variants.{Insufficient, NotWords, TooLong}
+use Rattle.packet.specs.declared.sack.Checked.{Checked}
+use Rattle.packet.specs.declared.sack.Checked.the-variants.{Fine, Bad}
 use Rattle.packet.specs.declared.header.HeaderReason.{HeaderReason}
 use Rattle.packet.specs.declared.header.HeaderReason.the-variants.{TooShort, UnknownType, UnknownVersion}
 use Rattle.packet.specs.declared.decode.Packet.{Packet}
@@ -16,6 +22,19 @@ use Rattle.packet.specs.declared.encode.Found.{Found}
 use Rattle.packet.specs.declared.encode.Found.the-variants.{Fit, Unfit}
 use Rattle.packet.specs.declared.encode.Encoded.{Encoded}
 use Rattle.packet.specs.declared.encode.Encoded.the-variants.{Written, Refused}
+
+abbrev pub typeRead : TypeRead → Answer PacketType
+typeRead (Known t) = done t
+typeRead Unknown = refused 2
+
+abbrev pub sackNumber : SackReason → ℕ
+sackNumber Insufficient = 5
+sackNumber NotWords = 6
+sackNumber TooLong = 8
+
+abbrev pub checked : Checked → Answer ℕ
+checked (Fine n) = done n
+checked (Bad r) = refused (sackNumber r)
 
 abbrev pub headerNumber : HeaderReason → ℕ
 headerNumber TooShort = 1

@@ -7,7 +7,7 @@ use lib.Dec.{ltb, eqb}
 use Rattle.common.specs.Answer.{Answer, done, refused, _then_}
 use Rattle.common.specs.Laws.Put.{put}
 use Rattle.packet.specs.Layout.{widths, bytesOf, fieldsOfHeader, emptyData}
-use Rattle.wire.specs.Sack.{maskAnswer}
+use Rattle.packet.specs.Sack.{maskAnswer}
 use Rattle.packet.specs.declared.header.Header.{Header}
 
 -- The extension byte is 1 with a SACK, else 0; an empty SACK means none.

@@ -1,4 +1,6 @@
 -- Laws about the definitions beside this file, a file for each topic.
+pub mod Kind
+pub mod Sack
 pub mod Number
 pub mod Layout
 pub mod Chain

@@ -4,9 +4,9 @@ use mathlib.Core.List.{List, [], _∷_, _++_}
 use mathlib.Core.Bool.{Bool, false, cond}
 use lib.ListN.{length, take, drop, getD}
 use lib.Dec.{eqb}
-use Rattle.wire.specs.Kind.{typeNumber, typeOf}
+use Rattle.packet.specs.Kind.{typeNumber, typeOf}
 use Rattle.packet.specs.declared.header.Header.{Header}
-use Rattle.wire.specs.declared.kind.PacketType.{PacketType}
+use Rattle.packet.specs.declared.kind.PacketType.{PacketType}
 
 -- Big-endian: the most significant byte comes first.
 abbrev pub big : List ℕ → ℕ

@@ -5,8 +5,8 @@ use mathlib.Core.Bool.{cond}
 use mathlib.Core.List.{List, [], _∷_, _++_}
 use Rattle.common.specs.Answer.{Answer, done, refused}
 use Rattle.common.specs.Case.{Case}
-use Rattle.wire.specs.Kind.{typeNumber}
-use Rattle.wire.specs.Sack.{bitOf, bitCountOf}
+use Rattle.packet.specs.Kind.{typeNumber}
+use Rattle.packet.specs.Sack.{bitOf, bitCountOf}
 use Rattle.packet.specs.Decode.{decodeOf, partOf}
 use Rattle.packet.specs.declared.decode.Packet.{Packet}
 use Rattle.packet.specs.declared.header.Header.{Header}

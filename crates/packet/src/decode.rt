@@ -13,9 +13,9 @@ use crate::header::Header;
 use crate::header::HeaderReason;
 use crate::header::is_empty_data;
 use crate::header::read_header;
-use wire::kind::PacketType;
-use wire::kind::TypeRead;
-use wire::sack::SackReason;
+use crate::kind::PacketType;
+use crate::kind::TypeRead;
+use crate::sack::SackReason;
 
 // A datagram that was read: its header, the first SACK (no bytes where there is none), and the
 // payload, the two as parts of the datagram.

@@ -5,7 +5,7 @@ ghost use mathlib.Core.List.{[]};
 ghost use lib.ListN.{length};
 ghost use Rattle.common.specs.Laws.Put.{put};
 ghost use Rattle.packet.specs.Encode.{encodeOf, roomOf, packetBytes, sizeOf, dataAnswer};
-ghost use Rattle.wire.specs.Sack.{maskAnswer};
+ghost use Rattle.packet.specs.Sack.{maskAnswer};
 ghost use Rattle.common.specs.Answer.{_then_};
 ghost use Rattle.packet.specs.Answers.{found, encoded};
 use crate::decode::Packet;
@@ -14,9 +14,9 @@ use crate::header::is_empty_data;
 use crate::header::put_header;
 use crate::number::put_all;
 use crate::number::put16;
-use wire::sack::Checked;
-use wire::sack::SackReason;
-use wire::sack::check;
+use crate::sack::Checked;
+use crate::sack::SackReason;
+use crate::sack::check;
 
 // Why a packet is not written: its SACK's length 5, 6, 8; Data with no payload 7; room 9.
 pub enum Unwritten {

@@ -4,12 +4,12 @@ ghost use mathlib.Core.Path.{_≡_};
 ghost use lib.ListN.{length};
 ghost use Rattle.common.specs.Laws.Put.{put};
 ghost use Rattle.packet.specs.Layout.{widths, bytesOf, fieldsOfHeader, headerWith, emptyData};
+use crate::kind::PacketType;
 use crate::number::put16;
 use crate::number::put32;
 use crate::number::read16;
 use crate::number::read32;
-use wire::kind::PacketType;
-use wire::seq::SeqNum;
+use seq::SeqNum;
 
 // What stands in a header: all but the version, which is 1, and the first extension, which goes
 // with the chain.

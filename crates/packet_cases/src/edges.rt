@@ -5,14 +5,14 @@ use lines::answer::of_sack;
 use packet::decode::Decoded;
 use packet::decode::Packet;
 use packet::extension::Part;
+use packet::sack::Checked;
+use packet::sack::bit_count;
+use packet::sack::check;
+use packet::sack::is_set;
+use packet::sack::meant;
 use report::tally::Tally;
 use report::text::front;
-use wire::sack::Checked;
-use wire::sack::bit_count;
-use wire::sack::check;
-use wire::sack::is_set;
-use wire::sack::meant;
-use wire::seq::SeqNum;
+use seq::SeqNum;
 
 // The answer's number.
 fn decoded(datagram: &[u8]) -> u64 {

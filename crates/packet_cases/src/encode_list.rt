@@ -13,12 +13,12 @@ use list::two;
 use packet::decode::Packet;
 use packet::encode::Encoded;
 use packet::header::Header;
+use packet::kind::PacketType;
+use packet::kind::TypeRead;
 use report::tally::Tally;
 use report::text::front;
+use seq::SeqNum;
 use std::num::wrapping_add_usize;
-use wire::kind::PacketType;
-use wire::kind::TypeRead;
-use wire::seq::SeqNum;
 
 fn known(read: TypeRead) -> PacketType {
     match read {

@@ -5,8 +5,8 @@ use mathlib.Core.List.{List, [], _∷_, _++_}
 use mathlib.Core.Option.{Option, none, some}
 use lib.Dec.{leb, eqb}
 use lib.ListN.{length, take, drop}
-use Rattle.wire.specs.Seq.{offsetOf}
-use Rattle.wire.specs.declared.seq.SeqNum.{SeqNum}
+use Rattle.seq.specs.Seq.{offsetOf}
+use Rattle.seq.specs.declared.SeqNum.{SeqNum}
 use Rattle.recv.specs.Table.{sackOf}
 use Rattle.recv.specs.State.{tableOf, soundOf}
 use Rattle.recv.specs.Receiver.{Receiver, joined, lengthsOf, ruleOf, storedOf, changed, readOf}

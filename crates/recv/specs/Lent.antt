@@ -2,7 +2,7 @@
 use Prim.Native.Nat.{ℕ, _<_, _^_}
 use mathlib.Core.List.{List}
 use mathlib.Core.Path.{_≡_}
-use Rattle.wire.specs.declared.seq.SeqNum.{SeqNum}
+use Rattle.seq.specs.declared.SeqNum.{SeqNum}
 use Rattle.recv.specs.State.{tableOf}
 use Rattle.recv.specs.Table.{bytesIn}
 use Rattle.recv.specs.declared.Counts.{Counts}

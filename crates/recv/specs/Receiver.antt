@@ -5,7 +5,7 @@ use mathlib.Core.List.{List, [], _∷_, _++_, map}
 use mathlib.Core.Option.{Option, none, some}
 use lib.Dec.{ltb}
 use lib.ListN.{length, take, drop}
-use Rattle.wire.specs.declared.seq.SeqNum.{SeqNum}
+use Rattle.seq.specs.declared.SeqNum.{SeqNum}
 use Rattle.recv.specs.Table.{runOf, limit, ahead, thereOf, freeOf}
 use Rattle.recv.specs.declared.Refusal.the-variants.{PastLimit, TooFarAhead, PayloadTooLong}
 use Rattle.recv.specs.declared.Writing.{Writing}

@@ -5,8 +5,8 @@ use mathlib.Core.List.{List, [], _∷_, _++_}
 use mathlib.Core.Option.{Option, none, some}
 use lib.Dec.{eqb}
 use lib.ListN.{length, take, getD}
-use Rattle.wire.specs.Seq.{offsetOf}
-use Rattle.wire.specs.declared.seq.SeqNum.{SeqNum}
+use Rattle.seq.specs.Seq.{offsetOf}
+use Rattle.seq.specs.declared.SeqNum.{SeqNum}
 use Rattle.recv.specs.State.{freshOf}
 use Rattle.recv.specs.Receiver.{Receiver, changed}
 use Rattle.recv.specs.Calls.{answerOf, writtenOf, writtenRoomOf, takenOf, takenRoomOf, takenOutOf}

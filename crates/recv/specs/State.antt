@@ -4,8 +4,8 @@ use mathlib.Core.Bool.{Bool, true, cond, not, _&&_}
 use mathlib.Core.List.{List}
 use lib.Dec.{leb, eqb}
 use lib.ListN.{take, getD, replicate}
-use Rattle.wire.specs.Seq.{plusOf, offsetOf}
-use Rattle.wire.specs.declared.seq.SeqNum.{SeqNum}
+use Rattle.seq.specs.Seq.{plusOf, offsetOf}
+use Rattle.seq.specs.declared.SeqNum.{SeqNum}
 use Rattle.recv.specs.Table.{waits, bytesIn, howMany, lastWaits, largestLength, limit, ahead, thereOf}
 use Rattle.recv.specs.declared.Count.{Count}
 use Rattle.recv.specs.declared.Count.the-variants.{Is as count-is, Refused as count-refused}

@@ -1,6 +1,6 @@
 // The receiver: payloads that arrive in any order, handed out in order, over a buffer of bytes that
 // the caller lends to every call (document 01, "Receiving").
-use wire::seq::SeqNum;
+use seq::SeqNum;
 
 mod bytes;
 mod sack;

@@ -1,12 +1,13 @@
 // The selective ACK, built plainly, bit by bit, from the table of waiting lengths.
-use wire::seq::Offset;
-use wire::seq::SeqNum;
+use packet::sack::meant;
+use seq::Offset;
+use seq::SeqNum;
 ghost use mathlib.Core.Path.{_≡_};
 ghost use mathlib.Core.Bool.{cond};
 ghost use Prim.Native.Nat.{_+_, _-_, _*_, _/_, _≤_, _<_};
 ghost use lib.ListN.{length, take, getD};
 ghost use lib.Seq.{paste};
-ghost use Rattle.wire.specs.Seq.{offsetOf};
+ghost use Rattle.seq.specs.Seq.{offsetOf};
 ghost use Rattle.recv.specs.Table.{waits, sackByteOf, sackLengthOf, sackOf};
 
 // How many bytes the selective ACK of a table of `span` places has: its bits padded to 32.
@@ -30,8 +31,7 @@ fn place_of(ack: SeqNum, i: usize) -> usize
     requires { ⌜ i < 2048 ⌝ }
     ensures { λ r. ⌜ r ≡ i + 1 ⌝ }
 {
-    let number = ack.plus((i + 2) as u16);
-    past(number, ack).0 as usize - 1
+    past(meant(ack, i), ack).0 as usize - 1
 }
 
 // 1 where a payload waits at `place`, else 0.

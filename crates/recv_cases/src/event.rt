@@ -17,7 +17,7 @@ use recv::Refusal;
 use recv::Truth;
 use recv::Writing;
 use report::text::front;
-use wire::seq::SeqNum;
+use seq::SeqNum;
 
 // The receiver after an event, and whether all that it answered is as recorded.
 pub struct Step {

@@ -15,8 +15,8 @@ use list::two;
 use recv::Creation;
 use recv::ReceiveBuffer;
 use report::tally::Tally;
+use seq::SeqNum;
 use std::num::wrapping_add_usize;
-use wire::seq::SeqNum;
 
 // What is counted, and the place in the list.
 struct Stand {

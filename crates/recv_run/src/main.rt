@@ -5,7 +5,7 @@ use recv::Count;
 use recv::Number;
 use recv::ReceiveBuffer;
 use recv::Writing;
-use wire::seq::SeqNum;
+use seq::SeqNum;
 ghost use Prim.Native.Nat.{_<_};
 
 // What has happened so far, and which byte is to be read next: byte `at` of payload `want`.

@@ -3,11 +3,11 @@ use Prim.Native.Nat.{ℕ}
 use mathlib.Core.List.{List}
 use lib.ListN.{length}
 use Rattle.common.specs.Answer.{Answer, done, refused}
-use Rattle.wire.specs.Kind.{typeNumber, typeAnswer}
+use Rattle.packet.specs.Kind.{typeNumber, typeAnswer}
 use Rattle.packet.specs.Decode.{decodeOf}
 use Rattle.packet.specs.Encode.{encodeOf, roomOf}
 use Rattle.packet.specs.declared.header.Header.{Header}
-use Rattle.wire.specs.declared.kind.PacketType.{PacketType}
+use Rattle.packet.specs.declared.kind.PacketType.{PacketType}
 use Rattle.packet.specs.declared.decode.Packet.{Packet}
 use Rattle.ribsaddle.specs.Answer.{valueOr}
 use Rattle.ribsaddle.specs.declared.codec.HeaderFields.{HeaderFields}

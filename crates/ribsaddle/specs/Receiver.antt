@@ -4,7 +4,7 @@ use mathlib.Core.Bool.{Bool}
 use mathlib.Core.List.{List}
 use lib.ListN.{length}
 use Rattle.common.specs.Answer.{Answer, done, refused}
-use Rattle.wire.specs.declared.seq.SeqNum.{SeqNum}
+use Rattle.seq.specs.declared.SeqNum.{SeqNum}
 use Rattle.recv.specs.Numbers.{numberOf as refusalNumber}
 use Rattle.recv.specs.State.{createdOf}
 use Rattle.recv.specs.Calls.{writtenOf, takenOf, ackedOf}

@@ -6,10 +6,10 @@ use mathlib.Core.Path.{_≡_}
 use lib.ListN.{length, replicate}
 use lib.Ieee.{Float}
 use Rattle.common.specs.Answer.{Answer, done, refused}
-use Rattle.wire.specs.Kind.{typeNumber, typeAnswer}
-use Rattle.wire.specs.declared.seq.SeqNum.{SeqNum}
-use Rattle.wire.specs.declared.seq.CircularRangeInclusive.{CircularRangeInclusive}
-use Rattle.wire.specs.declared.kind.PacketType.{PacketType}
+use Rattle.packet.specs.Kind.{typeNumber, typeAnswer}
+use Rattle.seq.specs.declared.SeqNum.{SeqNum}
+use Rattle.seq.specs.declared.CircularRangeInclusive.{CircularRangeInclusive}
+use Rattle.packet.specs.declared.kind.PacketType.{PacketType}
 use Rattle.congestion.specs.declared.settings.Settings.{Settings}
 use Rattle.sent.specs.declared.state.SentPackets.{SentPackets}
 use Rattle.outgoing.specs.declared.answer.LostPacket.{LostPacket}

@@ -8,9 +8,9 @@ use packet::decode::Decoded;
 use packet::decode::Packet;
 use packet::encode::Encoded;
 use packet::header::Header;
-use wire::kind::PacketType;
-use wire::kind::TypeRead;
-use wire::seq::SeqNum;
+use packet::kind::PacketType;
+use packet::kind::TypeRead;
+use seq::SeqNum;
 
 // A header. `packet_type` is the type's number.
 #[repr(C)]

@@ -1,7 +1,6 @@
 // Document 01's number of each refusal.
 ghost use mathlib.Core.Path.{_≡_};
-ghost use Rattle.wire.specs.Answers.{sackNumber};
-ghost use Rattle.packet.specs.Answers.{headerNumber, reasonNumber as readNumber, unwrittenNumber};
+ghost use Rattle.packet.specs.Answers.{sackNumber, headerNumber, reasonNumber as readNumber, unwrittenNumber};
 ghost use Rattle.outgoing.specs.Answers.{reasonNumber as sentNumber, outcome};
 ghost use Rattle.recv.specs.Numbers.{numberOf as recvNumber};
 ghost use Rattle.ribsaddle.specs.Answer.{numberOf};
@@ -11,9 +10,9 @@ use outgoing::answer::Reason as SentReason;
 use packet::decode::Reason as ReadReason;
 use packet::encode::Unwritten;
 use packet::header::HeaderReason;
+use packet::sack::SackReason;
 use recv::Refusal;
 use recv::Writing;
-use wire::sack::SackReason;
 
 fn of_header(reason: HeaderReason) -> u32
     ensures { λ r. ⌜ r ≡ headerNumber reason ⌝ }

@@ -15,7 +15,7 @@ use recv::Counts;
 use recv::Created;
 use recv::Creation;
 use recv::ReceiveBuffer;
-use wire::seq::SeqNum;
+use seq::SeqNum;
 
 // A receiver in two parts, in memory the same as `ReceiveBuffer`: its table can be lent alone.
 #[repr(C)]

@@ -10,11 +10,11 @@ use crate::number;
 use crate::told;
 use congestion::settings::Settings;
 use outgoing::answer::Outcome;
+use packet::kind::PacketType;
+use packet::kind::TypeRead;
 use sent_lent::head::Head;
 use sent_lent::head::Stepped;
-use wire::kind::PacketType;
-use wire::kind::TypeRead;
-use wire::seq::SeqNum;
+use seq::SeqNum;
 
 // A tracker with each array by itself, so that it can be lent. Of the packet at place i, `times` has
 // the time at i; `sizes` the tag at 2i and the length at 2i + 1; `marks` the type's number at 4i, and

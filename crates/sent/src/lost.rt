@@ -10,7 +10,7 @@ use outgoing::kept::Packet;
 use outgoing::lost::type_of;
 use outgoing::lost::wrap_place;
 use outgoing::told::any_told;
-use wire::seq::SeqNum;
+use seq::SeqNum;
 ghost use mathlib.Core.Path.{_≡_};
 ghost use Prim.Native.Nat.{_≤_, _<_, _-_, _+_};
 ghost use lib.Seq.{slice};

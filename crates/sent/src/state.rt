@@ -7,7 +7,7 @@ use controller::delays::Delays;
 use outgoing::answer::Outcome;
 use outgoing::answer::Reason;
 use outgoing::kept::Packet;
-use wire::seq::SeqNum;
+use seq::SeqNum;
 ghost use mathlib.Core.Path.{_≡_};
 ghost use Prim.Native.Nat.{_≤_};
 ghost use lib.ListN.{take};

@@ -4,7 +4,7 @@ use congestion::numbers::Numbers;
 use outgoing::ack::Ack;
 use outgoing::ack::Run;
 use outgoing::kept::Packet;
-use wire::sack;
+use packet::sack;
 ghost use mathlib.Core.Path.{_≡_};
 ghost use mathlib.Core.List.{_++_};
 ghost use Prim.Native.Nat.{_≤_, _<_, _-_, _+_};

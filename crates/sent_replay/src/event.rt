@@ -7,12 +7,12 @@ use feed::Feed;
 use feed::Held;
 use feed::both;
 use outgoing::answer::LostTold;
+use packet::kind::PacketType;
+use packet::kind::TypeRead;
 use report::text::front;
 use sent::answer::Tracked;
 use sent::state::SentPackets;
-use wire::kind::PacketType;
-use wire::kind::TypeRead;
-use wire::seq::SeqNum;
+use seq::SeqNum;
 
 // The widths of an event: kind, type, number, length or SACK byte count, now, delay.
 const WIDTHS: [u8; 6] = [1, 1, 2, 4, 8, 8];

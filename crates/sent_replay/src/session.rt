@@ -9,7 +9,7 @@ use feed::both;
 use report::tally::Tally;
 use sent::answer::Tracked;
 use sent::state::SentPackets;
-use wire::seq::SeqNum;
+use seq::SeqNum;
 
 // The widths of the eight settings, the answer and the count of events.
 const WIDTHS: [u8; 10] = [8, 8, 8, 8, 8, 8, 8, 8, 1, 4];

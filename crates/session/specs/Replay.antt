@@ -9,7 +9,7 @@ use lib.Ieee.{fin}
 use lib.ListN.{length, take, drop}
 use Rattle.common.specs.Answer.{Answer, done, refused}
 use Rattle.common.specs.Laws.Put.{put}
-use Rattle.wire.specs.Kind.{typeOf}
+use Rattle.packet.specs.Kind.{typeOf}
 use Rattle.congestion.specs.declared.settings.Settings.{Settings}
 use Rattle.sent.specs.declared.state.SentPackets.{SentPackets}
 use Rattle.sent.specs.State.{transmitAnswer, ackAnswer, timeoutAnswer, newAnswer, readOf, trackerOf}

@@ -2,9 +2,9 @@
 use outgoing::answer::NumberTold;
 use outgoing::answer::Outcome;
 use outgoing::answer::Reason;
-use wire::sack::SackReason;
+use packet::sack::SackReason;
 ghost use mathlib.Core.Path.{_≡_};
-ghost use Rattle.wire.specs.Answers.{sackNumber};
+ghost use Rattle.packet.specs.Answers.{sackNumber};
 ghost use Rattle.outgoing.specs.Answers.{reasonNumber, outcome, numberTold};
 ghost use Rattle.session.specs.Lines.{numberOf};
 ghost use Rattle.session.specs.Replay.{valueOr};

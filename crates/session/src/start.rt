@@ -10,7 +10,7 @@ use crate::replay::Started;
 use crate::settings::read_settings;
 use congestion::settings::Settings;
 use sent::state::SentPackets;
-use wire::seq::SeqNum;
+use seq::SeqNum;
 ghost use Prim.Native.Nat.{_≤_};
 ghost use mathlib.Core.Path.{_≡_};
 ghost use mathlib.Core.Bool.{not, _&&_};

@@ -13,7 +13,7 @@ use outgoing::lost::type_of;
 use packet::extension::Part;
 use sent::answer::Tracked;
 use sent::state::SentPackets;
-use wire::seq::SeqNum;
+use seq::SeqNum;
 ghost use Prim.Native.Nat.{_+_, _≤_, _<_};
 ghost use mathlib.Core.Path.{_≡_};
 ghost use lib.Dec.{leb};

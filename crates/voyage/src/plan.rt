@@ -17,8 +17,8 @@ use crate::book::SEED;
 use crate::book::TO_SEND;
 use crate::book::WANT;
 use congestion::settings::Settings;
-use wire::kind::PacketType;
-use wire::seq::SeqNum;
+use packet::kind::PacketType;
+use seq::SeqNum;
 
 // Marsaglia's xorshift of 64 bits.
 pub(crate) fn next(seed: u64) -> u64 {

@@ -28,14 +28,14 @@ use crate::words::WROTE_AGAIN;
 use packet::decode::Packet;
 use packet::extension::Part;
 use packet::header::Header;
+use packet::kind::PacketType;
 use recv::Count;
 use recv::Number;
 use recv::ReceiveBuffer;
 use recv::Refusal;
 use recv::Writing;
 use report::text::front;
-use wire::kind::PacketType;
-use wire::seq::SeqNum;
+use seq::SeqNum;
 
 fn of_refusal(refusal: Refusal) -> u64 {
     match refusal {

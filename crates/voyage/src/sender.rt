@@ -37,7 +37,7 @@ use sent_lent::head::Head;
 use sent_lent::head::Stepped;
 use sent_replay::answer::of_outcome;
 use sent_replay::answer::of_reason;
-use wire::seq::SeqNum;
+use seq::SeqNum;
 
 // The header of a packet with a payload of this size.
 fn header_of(clock: u64, number: SeqNum, size: usize) -> Header {

@@ -10,8 +10,8 @@ use lib.ListN.{length, drop}
 use lib.Seq.{take-append-seam}
 use borrow.Author.Tests.{leb-true}
 use Rattle.common.specs.Answer.{Answer, done, refused, _then_}
-use Rattle.wire.specs.declared.seq.SeqNum.{SeqNum}
-use Rattle.wire.specs.declared.kind.PacketType.{PacketType}
+use Rattle.seq.specs.declared.SeqNum.{SeqNum}
+use Rattle.packet.specs.declared.kind.PacketType.{PacketType}
 use Rattle.outgoing.specs.declared.kept.Packet.{Packet}
 use Rattle.sent.specs.declared.state.SentPackets.{SentPackets}
 use Rattle.outgoing.specs.Tracker.{Tracker, offsetIn, clockedOf, clockAnswer}
@@ -19,7 +19,7 @@ use Rattle.outgoing.specs.Transmit.{mayTransmit, roomAnswer, transmitCheck, fir
 use Rattle.outgoing.specs.Ack.{delayAnswer, mayAck, ackCheck, markedOf, ackOf}
 use Rattle.outgoing.specs.Sound.{timeoutOf}
 use Rattle.sent.specs.State.{trackerOf, writtenOf, stateSoundOf, answeredOf, answeredAs, transmitAnswer, ackStateOf, ackAnswer, timeoutAnswer}
-use Rattle.wire.specs.Sack.{maskAnswer}
+use Rattle.packet.specs.Sack.{maskAnswer}
 use Rattle.delivery.specs.Run.{isDone, accepted}
 use Rattle.delivery.specs.Laws.Marks.{ackedByOf}
 

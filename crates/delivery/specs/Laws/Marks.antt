@@ -16,7 +16,7 @@ use Rattle.outgoing.specs.Tracker.{Tracker, goneOf, isKept, packetAt, noPacket,
 use Rattle.outgoing.specs.Loss.{isUnacked, withLost, isNewlyLostOf, ackedCountOf, lossMarkedOf}
 use Rattle.outgoing.specs.Transmit.{withResent, resentOf, recordedOf}
 use Rattle.outgoing.specs.Ack.{sackedFrom, offsetsFrom, heardOf, withAcked, newlyAckedOf, acknowledgedOf, allAcknowledgedOf, lossOf, fromUnacked, releasedOf, markedOf}
-use Rattle.wire.specs.Sack.{bitOf}
+use Rattle.packet.specs.Sack.{bitOf}
 use Rattle.delivery.specs.Run.{marksOf}
 
 abbrev mark : Packet → Bool

@@ -9,10 +9,10 @@ use lib.Dec.{leb, ltb, eqb}
 use lib.ListN.{length, take, drop, getD}
 use lib.Seq.{take-append-seam}
 use borrow.Author.Tests.{leb-false, lt-ltb, eqb-true}
-use Rattle.wire.specs.Seq.{offsetOf}
-use Rattle.wire.specs.Sack.{bitOf}
-use Rattle.wire.specs.Laws.Seq.{offset-of-plus}
-use Rattle.wire.specs.declared.seq.SeqNum.{SeqNum}
+use Rattle.seq.specs.Seq.{offsetOf}
+use Rattle.packet.specs.Sack.{bitOf}
+use Rattle.seq.specs.Laws.{offset-of-plus}
+use Rattle.seq.specs.declared.SeqNum.{SeqNum}
 use Rattle.recv.specs.declared.ReceiveBuffer.{ReceiveBuffer}
 use Rattle.recv.specs.declared.Count.the-variants.{Is as is-count, Refused as count-refused}
 use Rattle.recv.specs.declared.Number.the-variants.{Is as is-number, Refused as number-refused}

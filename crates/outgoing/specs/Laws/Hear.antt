@@ -8,7 +8,7 @@ use lib.Dec.{leb, ltb, eqb}
 use lib.ListN.{length, getD}
 use Rattle.congestion.specs.Laws.Numbers.{both}
 use borrow.Author.Tests.{ltb-true, lt-ltb, le-leb, lt-leb, le-ltb, ne-eqb, leb-true, leb-false}
-use Rattle.wire.specs.Sack.{bitOf}
+use Rattle.packet.specs.Sack.{bitOf}
 use Rattle.outgoing.specs.declared.ack.Ack.{Ack}
 use Rattle.outgoing.specs.declared.ack.Heard.{Heard}
 use Rattle.outgoing.specs.declared.ack.Run.{Run}

@@ -9,10 +9,10 @@ use lib.Dec.{leb, eqb}
 use lib.ListN.{length, getD, length-append}
 use lib.Seq.{slice, slice-cons, slice-empty}
 use borrow.Author.Tests.{eq-eqb, ne-eqb, eqb-true, eqb-false, le-leb, lt-leb}
-use Rattle.wire.specs.declared.seq.SeqNum.{SeqNum}
-use Rattle.wire.specs.declared.kind.PacketType.the-variants.{Syn}
-use Rattle.wire.specs.Kind.{typeOf}
-use Rattle.wire.specs.Seq.{plusOf}
+use Rattle.seq.specs.declared.SeqNum.{SeqNum}
+use Rattle.packet.specs.declared.kind.PacketType.the-variants.{Syn}
+use Rattle.packet.specs.Kind.{typeOf}
+use Rattle.seq.specs.Seq.{plusOf}
 use Rattle.outgoing.specs.declared.kept.Packet.{Packet}
 use Rattle.outgoing.specs.declared.answer.LostPacket.{LostPacket}
 use Rattle.outgoing.specs.Tracker.{noPacket}

@@ -5,7 +5,7 @@ use mathlib.Core.Bool.{cond}
 use lib.Dec.{eqb}
 use native.Mathlib.Omega.{arith}
 use Rattle.common.specs.Answer.{Answer, done, refused}
-use Rattle.wire.specs.declared.sack.SackReason.the-variants.{Insufficient, NotWords, TooLong}
+use Rattle.packet.specs.declared.sack.SackReason.the-variants.{Insufficient, NotWords, TooLong}
 use Rattle.outgoing.specs.declared.answer.Reason.{Reason}
 use Rattle.outgoing.specs.declared.answer.Reason.the-variants.{BadSack, BadSetting, BadTime, NotSent, NoWindow, NoPlace, TooMany, NotSound}
 use Rattle.outgoing.specs.declared.answer.Outcome.{Outcome}

@@ -6,8 +6,8 @@ use mathlib.Core.Path.{_≡_, refl, ap}
 use lib.Dec.{ltb}
 use borrow.Author.Tests.{eq-eqb, ne-eqb}
 use Rattle.common.specs.Answer.{done, refused}
-use Rattle.wire.specs.Seq.{plusOf}
-use Rattle.wire.specs.declared.seq.SeqNum.{SeqNum}
+use Rattle.seq.specs.Seq.{plusOf}
+use Rattle.seq.specs.declared.SeqNum.{SeqNum}
 use Rattle.outgoing.specs.Read.{toldOf, anyOf, lastAckedOf}
 
 pub told-sound : {A : Type 0} (b : Bool) (a : A) → b ≡ true → toldOf b a ≡ done a

@@ -3,7 +3,7 @@ use Prim.Native.Nat.{ℕ, _+_, _-_, _/_, _%_, _≤_, _<_}
 use mathlib.Core.Bool.{true, false}
 use lib.Dec.{ltb}
 use borrow.Author.Tests.{lt-ltb, le-ltb, le-leb, eq-eqb, ne-eqb}
-use Rattle.wire.specs.Kind.{typeOf}
+use Rattle.packet.specs.Kind.{typeOf}
 use Rattle.packet.specs.Layout.{headerOf, headerWith, typeField, versionField}
 use lib.ListN.{length, getD, length-append}
 use lib.Seq.{take-at, drop-at}

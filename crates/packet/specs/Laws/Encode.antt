@@ -10,7 +10,7 @@ use borrow.Author.Tests.{lt-ltb, le-ltb, ltb-false, eqb-true}
 use Rattle.common.specs.Answer.{Answer, done, refused, _then_}
 use Rattle.common.specs.Laws.Put.{put, put-on}
 use Rattle.packet.specs.Layout.{bytes, bytesOf, widths, fieldsOfHeader}
-use Rattle.wire.specs.Sack.{maskAnswer}
+use Rattle.packet.specs.Sack.{maskAnswer}
 use Rattle.packet.specs.Encode.{packetBytes, sizeOf, dataAnswer, encodeOf, roomAnswer}
 use Rattle.packet.specs.Laws.Number.{bytes-two}
 use Rattle.packet.specs.declared.header.Header.{Header}

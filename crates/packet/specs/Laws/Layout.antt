@@ -7,7 +7,7 @@ use lib.ListN.{length, take, drop, getD}
 use lib.Seq.{drop-cons, drop-drop}
 use Rattle.common.specs.Laws.Put.{put, put-on}
 use Rattle.packet.specs.declared.header.Header.{Header}
-use Rattle.wire.specs.Kind.{typeNumber}
+use Rattle.packet.specs.Kind.{typeNumber}
 use Rattle.packet.specs.Layout.{fieldsOfHeader, big, bytes, fieldsOf, bytesOf, widths, extensionField}
 
 next-field : (w at : ℕ) (ws rest l : List ℕ) → fieldsOf ws (drop (at + w) l) ≡ rest → fieldsOf (w ∷ ws) (drop at l) ≡ big (take w (drop at l)) ∷ rest

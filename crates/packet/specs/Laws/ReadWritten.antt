@@ -9,23 +9,23 @@ use lib.ListN.{length, getD, length-append}
 use lib.Seq.{getD-append-add}
 use borrow.Author.Tests.{le-leb, eqb-true}
 use Rattle.common.specs.Answer.{Answer, done, refused}
-use Rattle.wire.specs.Kind.{typeNumber, typeOf}
+use Rattle.packet.specs.Kind.{typeNumber, typeOf}
 use Rattle.packet.specs.Layout.{bytesOf, fieldsOf, widths, fieldsOfHeader, headerOf, typeField, versionField, extensionField, emptyData}
 use Rattle.packet.specs.Chain.{stepOf, chainFrom, whole, none}
-use Rattle.wire.specs.Sack.{maskAnswer}
+use Rattle.packet.specs.Sack.{maskAnswer}
 use Rattle.packet.specs.Decode.{behindHeader, chainOf, decodeOf, partOf}
 use Rattle.packet.specs.Encode.{extensionByte, extensionBytes, packetBytes, sizeOf, encodeOf}
 use Rattle.packet.specs.Laws.Chain.{chain-ends, chain-found}
 use Rattle.packet.specs.Laws.Decode.{decode-good, part-middle}
 use Rattle.packet.specs.Laws.Encode.{header-length, packet-length, encode-unfit}
-use Rattle.wire.specs.Laws.Kind.{type-small, type-back}
+use Rattle.packet.specs.Laws.Kind.{type-small, type-back}
 use Rattle.packet.specs.Laws.RoundTrip.{Fitted, fields-of-bytes}
 use Rattle.packet.specs.declared.extension.Cursor.{Cursor}
 use Rattle.packet.specs.declared.extension.Extension.{Extension}
 use Rattle.packet.specs.declared.extension.Part.{Part}
 use Rattle.packet.specs.declared.extension.Step.the-variants.{Found}
 use Rattle.packet.specs.declared.header.Header.{Header}
-use Rattle.wire.specs.declared.kind.PacketType.{PacketType}
+use Rattle.packet.specs.declared.kind.PacketType.{PacketType}
 
 -- Each field of a header fits its width, as the field of a struct of such numbers always does.
 pub record HeaderFits (h : Header) : Type 0 where

@@ -9,8 +9,8 @@ use lib.ListN.{length, take, drop, getD, take-append-drop, length-take, length-d
 use lib.Seq.{drop-cons, drop-drop, take-all, length-take-le}
 use borrow.Author.Tests.{le-leb, eqb-true, ltb-false}
 use Rattle.common.specs.Answer.{Answer, done, refused, _then_}
-use Rattle.wire.specs.Kind.{typeNumber, typeOf}
-use Rattle.wire.specs.Laws.Kind.{number-back}
+use Rattle.packet.specs.Kind.{typeNumber, typeOf}
+use Rattle.packet.specs.Laws.Kind.{number-back}
 use Rattle.packet.specs.Layout.{bytesOf, fieldsOf, widths, fieldsOfHeader, headerLength, headerOf, typeField, versionField, extensionField, emptyData}
 use Rattle.packet.specs.Chain.{Chain, past, whole, before, stepOf, extensionAt, goOn, chainFrom, none, inside}
 use Rattle.packet.specs.Decode.{behindHeader, chainOf, decodeOf, partOf, packetOf, sackAnswer, payloadAnswer}

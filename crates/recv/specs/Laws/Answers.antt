@@ -7,8 +7,8 @@ use native.Mathlib.Omega.{arith}
 use borrow.Author.Tests.{lt-ltb, le-ltb, ltb-false, eq-eqb, ne-eqb, eqb-true}
 use lib.Dec.{ltb, eqb}
 use lib.ListN.{length, getD}
-use Rattle.wire.specs.Seq.{offsetOf}
-use Rattle.wire.specs.declared.seq.SeqNum.{SeqNum}
+use Rattle.seq.specs.Seq.{offsetOf}
+use Rattle.seq.specs.declared.SeqNum.{SeqNum}
 use Rattle.recv.specs.Table.{waits, bytesIn, limit, ahead, thereOf, freeOf}
 use Rattle.recv.specs.State.{tableOf, soundOf}
 use Rattle.recv.specs.Receiver.{ruleOf, changed}

@@ -13,8 +13,8 @@ use borrow.Author.Tests.{eq-eqb, ne-eqb}
 use lib.Dec.{eqb}
 use lib.ListN.{length, take, drop, getD, take-append-drop}
 use lib.Seq.{getD-drop, length-take-le}
-use Rattle.wire.specs.Seq.{offsetOf}
-use Rattle.wire.specs.declared.seq.SeqNum.{SeqNum}
+use Rattle.seq.specs.Seq.{offsetOf}
+use Rattle.seq.specs.declared.SeqNum.{SeqNum}
 use Rattle.recv.specs.Table.{waits, tabled, runOf as readyRun}
 use Rattle.recv.specs.State.{tableOf, soundOf, freshOf}
 use Rattle.recv.specs.Receiver.{Receiver, joined, lengthsOf, putAt, storedOf, readOf, changed}

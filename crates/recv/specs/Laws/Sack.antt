@@ -12,7 +12,7 @@ use lib.Dec.{leb, ltb, eqb}
 use lib.ListN.{length, take, drop, getD, List·getD-eq-default}
 use lib.Pow.{pow-mono}
 use lib.Seq.{paste, take-all, length-take-le}
-use Rattle.wire.specs.Sack.{bitOf}
+use Rattle.packet.specs.Sack.{bitOf}
 use Rattle.recv.specs.Table.{waits, binaryOf, tabled, sackBitOf, sackByteOf, sackLengthOf, sackOf, waitsAt}
 use Rattle.recv.specs.State.{tableOf, soundOf}
 use Rattle.recv.specs.Calls.{ackedOf, ackedRoomOf}

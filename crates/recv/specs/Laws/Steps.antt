@@ -8,7 +8,7 @@ use native.Mathlib.Numerals.{add-one, one-add}
 use native.Mathlib.Omega.{arith}
 use lib.ListN.{length, take, drop, set, getD, replicate, length-replicate, length-drop}
 use lib.Seq.{paste, take-all, take-take, drop-cons, drop-drop, length-take-le}
-use Rattle.wire.specs.declared.seq.SeqNum.{SeqNum}
+use Rattle.seq.specs.declared.SeqNum.{SeqNum}
 use Rattle.recv.specs.Table.{waits, bytesIn, runOf}
 use Rattle.recv.specs.State.{tableOf}
 use Rattle.recv.specs.Receiver.{putAt}

@@ -9,8 +9,8 @@ use lib.ListN.{length, take, drop, length-drop}
 use lib.Seq.{take-at, drop-append-le}
 use borrow.Author.Tests.{ne-eqb, eqb-true, leb-true, ltb-false}
 use Rattle.common.specs.Answer.{Answer, done, refused, _then_}
-use Rattle.wire.specs.declared.seq.SeqNum.{SeqNum}
-use Rattle.wire.specs.Sack.{maskAnswer}
+use Rattle.seq.specs.declared.SeqNum.{SeqNum}
+use Rattle.packet.specs.Sack.{maskAnswer}
 use Rattle.congestion.specs.declared.numbers.Numbers.{Numbers}
 use Rattle.controller.specs.declared.delays.Delays.{Delays}
 use Rattle.congestion.specs.Numbers.{acceptedOf}

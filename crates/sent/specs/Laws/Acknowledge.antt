@@ -8,7 +8,7 @@ use lib.Dec.{leb, ltb, eqb}
 use lib.ListN.{length, take, drop, getD, set, length-set}
 use lib.Seq.{getD-take, take-set-lt, drop-set-lt}
 use Rattle.congestion.specs.Laws.Numbers.{both}
-use Rattle.wire.specs.declared.seq.SeqNum.{SeqNum}
+use Rattle.seq.specs.declared.SeqNum.{SeqNum}
 use Rattle.congestion.specs.declared.numbers.Numbers.{Numbers}
 use Rattle.controller.specs.declared.delays.Delays.{Delays}
 use Rattle.congestion.specs.Settings.{latest}

@@ -7,8 +7,8 @@ use native.Mathlib.Omega.{arith}
 use lib.Dec.{leb}
 use lib.ListN.{length, length-set, length-append}
 use Rattle.common.specs.Answer.{Answer, done, _then_}
-use Rattle.wire.specs.declared.seq.SeqNum.{SeqNum}
-use Rattle.wire.specs.declared.kind.PacketType.{PacketType}
+use Rattle.seq.specs.declared.SeqNum.{SeqNum}
+use Rattle.packet.specs.declared.kind.PacketType.{PacketType}
 use Rattle.congestion.specs.declared.settings.Settings.{Settings}
 use Rattle.congestion.specs.Settings.{inRangeOf}
 use Rattle.outgoing.specs.declared.kept.Packet.{Packet}

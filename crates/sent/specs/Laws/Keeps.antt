@@ -8,11 +8,11 @@ use lib.Dec.{leb, ltb, eqb}
 use lib.ListN.{length, length-set, length-append}
 use borrow.Author.Tests.{le-leb, leb-true, leb-false, ltb-true, ltb-false}
 use Rattle.common.specs.Answer.{Answer, done, refused, _then_}
-use Rattle.wire.specs.declared.seq.SeqNum.{SeqNum}
-use Rattle.wire.specs.declared.kind.PacketType.{PacketType}
-use Rattle.wire.specs.declared.kind.PacketType.the-variants.{Data, Fin, State, Reset, Syn}
-use Rattle.wire.specs.Kind.{typeNumber}
-use Rattle.wire.specs.Sack.{maskAnswer}
+use Rattle.seq.specs.declared.SeqNum.{SeqNum}
+use Rattle.packet.specs.declared.kind.PacketType.{PacketType}
+use Rattle.packet.specs.declared.kind.PacketType.the-variants.{Data, Fin, State, Reset, Syn}
+use Rattle.packet.specs.Kind.{typeNumber}
+use Rattle.packet.specs.Sack.{maskAnswer}
 use Rattle.congestion.specs.declared.numbers.Numbers.{Numbers}
 use Rattle.congestion.specs.Settings.{latest}
 use Rattle.congestion.specs.Numbers.{soundOf, whenSound, freeOf, sentOf, transmittedOf, creditedOf, ackedOf, lostOf}

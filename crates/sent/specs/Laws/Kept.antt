@@ -12,7 +12,7 @@ use Rattle.outgoing.specs.Loss.{isUnacked, ackedOne}
 use Rattle.outgoing.specs.Sound.{startsUnacked}
 use Rattle.sent.specs.State.{writtenOf}
 use Rattle.sent.specs.declared.state.SentPackets.{SentPackets}
-use Rattle.wire.specs.declared.seq.SeqNum.{SeqNum}
+use Rattle.seq.specs.declared.SeqNum.{SeqNum}
 use Rattle.congestion.specs.declared.numbers.Numbers.{Numbers}
 use Rattle.controller.specs.declared.delays.Delays.{Delays}
 use mathlib.Core.Bool.{Bool, true, false, _||_, cond}

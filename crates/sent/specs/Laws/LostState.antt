@@ -9,7 +9,7 @@ use lib.ListN.{length, take, getD, length-append, List·getD-append, take-append
 use lib.Seq.{slice, length-slice, getD-append-add, getD-take, getD-drop, length-take-le, take-take}
 use borrow.Author.Tests.{le-leb, lt-leb, leb-true, leb-false, ltb-true, ltb-false}
 use Rattle.common.specs.Answer.{done, refused}
-use Rattle.wire.specs.declared.seq.SeqNum.{SeqNum}
+use Rattle.seq.specs.declared.SeqNum.{SeqNum}
 use Rattle.outgoing.specs.declared.kept.Packet.{Packet}
 use Rattle.sent.specs.declared.state.SentPackets.{SentPackets}
 use Rattle.outgoing.specs.declared.answer.LostPacket.{LostPacket}

@@ -9,9 +9,9 @@ use lib.ListN.{length, take, getD, set}
 use lib.Seq.{getD-take}
 use borrow.Author.Tests.{le-leb, lt-leb, lt-ltb, le-ltb, leb-false}
 use Rattle.common.specs.Answer.{Answer, done, refused, _then_}
-use Rattle.wire.specs.declared.seq.SeqNum.{SeqNum}
+use Rattle.seq.specs.declared.SeqNum.{SeqNum}
 use Rattle.congestion.specs.declared.numbers.Numbers.{Numbers}
-use Rattle.wire.specs.declared.kind.PacketType.{PacketType}
+use Rattle.packet.specs.declared.kind.PacketType.{PacketType}
 use Rattle.congestion.specs.Numbers.{acceptedOf, transmittedOf, freeOf}
 use Rattle.outgoing.specs.declared.kept.Packet.{Packet}
 use Rattle.sent.specs.declared.state.SentPackets.{SentPackets}

@@ -8,9 +8,9 @@ use lib.Dec.{leb, eqb}
 use lib.ListN.{length, take, drop}
 use borrow.Author.Tests.{le-leb, lt-leb, leb-true, eq-eqb, ne-eqb}
 use Rattle.common.specs.Answer.{Answer, done, refused}
-use Rattle.wire.specs.Kind.{typeOf}
+use Rattle.packet.specs.Kind.{typeOf}
 use Rattle.packet.specs.Decode.{partOf}
-use Rattle.wire.specs.declared.kind.PacketType.{PacketType}
+use Rattle.packet.specs.declared.kind.PacketType.{PacketType}
 use Rattle.sent.specs.declared.state.SentPackets.{SentPackets}
 use Rattle.sent.specs.State.{transmitAnswer, ackAnswer, timeoutAnswer}
 use Rattle.session.specs.declared.event.Event.{Event}

@@ -8,10 +8,10 @@ use lib.Dec.{leb, ltb, eqb}
 use lib.ListN.{length, drop}
 use lib.Seq.{take-append-seam}
 use Rattle.common.specs.Answer.{Answer, done, refused, _then_}
-use Rattle.wire.specs.declared.seq.SeqNum.{SeqNum}
-use Rattle.wire.specs.declared.kind.PacketType.{PacketType}
-use Rattle.wire.specs.Sack.{maskAnswer}
-use Rattle.wire.specs.Kind.{typeOf}
+use Rattle.seq.specs.declared.SeqNum.{SeqNum}
+use Rattle.packet.specs.declared.kind.PacketType.{PacketType}
+use Rattle.packet.specs.Sack.{maskAnswer}
+use Rattle.packet.specs.Kind.{typeOf}
 use Rattle.outgoing.specs.declared.kept.Packet.{Packet}
 use Rattle.sent.specs.declared.state.SentPackets.{SentPackets}
 use Rattle.congestion.specs.declared.numbers.Numbers.{Numbers}

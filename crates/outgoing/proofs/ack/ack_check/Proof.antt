@@ -5,8 +5,8 @@ use Prim.Native.Nat.{ℕ, _≤_, _^_}
 use native.Mathlib.Omega.{arith}
 use borrow.Author.Tests.{le-leb, lt-leb}
 use Rattle.common.specs.Answer.{Answer, done, refused, _then_}
-use Rattle.wire.specs.Answers.{checked}
-use Rattle.wire.specs.Sack.{maskAnswer}
+use Rattle.packet.specs.Answers.{checked}
+use Rattle.packet.specs.Sack.{maskAnswer}
 use Rattle.outgoing.specs.Ack.{mayAck, ackCheck}
 use borrow.Author.Needs.{needs}
 use Rattle.outgoing.proofs.ack.ack_check.Statement.{statement}

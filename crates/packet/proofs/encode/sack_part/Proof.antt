@@ -1,6 +1,6 @@
 -- `sack_part` meets its contract: what `check` found, as a finding of this module.
 use mathlib.Core.Path.{sym, ap, _∙_}
-use Rattle.wire.specs.Answers.{checked}
+use Rattle.packet.specs.Answers.{checked}
 use borrow.Author.Needs.{needs}
 use Rattle.packet.proofs.encode.sack_part.Statement.{statement}
 use Rattle.packet.proofs.encode.sack_part.Tie as tie

@@ -1,7 +1,7 @@
 -- `put_header` meets its contract: the fields are written one behind another, each at the sum of the widths before it.
 use Prim.Native.Nat.{ℕ, _+_, _*_}
 use mathlib.Core.Path.{_∙_, ap}
-use Rattle.wire.specs.Laws.Kind.{type-small}
+use Rattle.packet.specs.Laws.Kind.{type-small}
 use Rattle.packet.specs.Laws.Layout.{header-put}
 use borrow.Author.Needs.{needs}
 use Rattle.packet.proofs.header.put_header.Statement.{statement}

@@ -4,8 +4,8 @@ use mathlib.Core.Path.{_≡_, sym, ap, _∙_}
 use native.Mathlib.Omega.{arith}
 use borrow.Author.Needs.{needs}
 use lib.ListN.{length, take, drop, length-drop}
-use Rattle.wire.specs.Seq.{offsetOf}
-use Rattle.wire.specs.declared.seq.Offset.{Offset}
+use Rattle.seq.specs.Seq.{offsetOf}
+use Rattle.seq.specs.declared.Offset.{Offset}
 use Rattle.recv.specs.Lent.{whole}
 use Rattle.recv.specs.Table.{bytesIn}
 use Rattle.recv.specs.State.{tableOf}

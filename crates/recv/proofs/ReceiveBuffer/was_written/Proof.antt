@@ -2,7 +2,7 @@
 use mathlib.Core.Path.{sym, ap, _∙_}
 use native.Mathlib.Omega.{arith}
 use borrow.Author.Needs.{needs}
-use Rattle.wire.specs.declared.seq.Offset.{Offset}
+use Rattle.seq.specs.declared.Offset.{Offset}
 use Rattle.recv.specs.Table.{thereOf}
 use Rattle.recv.specs.State.{tableOf}
 use Rattle.recv.specs.Laws.Cases.{cond-true, cond-false}

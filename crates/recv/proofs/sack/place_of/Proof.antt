@@ -1,12 +1,12 @@
--- The number i + 2 past the ack number lies i + 2 past it, so bit i stands at place i + 1.
+-- The number that bit i means lies i + 2 past the ack number (`offset-of-meant`), so bit i stands at place i + 1.
 use mathlib.Core.Path.{_≡_, ap, _∙_}
 use Prim.Native.Nat.{_+_}
 use native.Mathlib.Omega.{arith}
 use borrow.Author.Needs.{needs}
-use Rattle.wire.specs.Seq.{offsetOf}
-use Rattle.wire.specs.Laws.Seq.{offset-of-plus}
-use Rattle.wire.specs.declared.seq.Offset.{Offset}
-use Rattle.wire.specs.declared.seq.SeqNum.{SeqNum}
+use Rattle.seq.specs.Seq.{offsetOf}
+use Rattle.packet.specs.Laws.Sack.{offset-of-meant}
+use Rattle.seq.specs.declared.Offset.{Offset}
+use Rattle.seq.specs.declared.SeqNum.{SeqNum}
 use Rattle.recv.proofs.sack.place_of.Statement.{statement}
 use Rattle.recv.proofs.sack.place_of.Tie as tie
 
@@ -14,17 +14,11 @@ far : (c : tie.After-struct-known) → c .before .past .result .0 ≡ c .before 
 far c =
     let a = c .before .before .before .args in
     ap (λ (o : Offset). o .0) (c .before .past .ensures)
-    ∙ ap (λ (n : SeqNum). offsetOf n (a .ack) .0) (c .before .before .plus .ensures)
-    ∙ offset-of-plus (a .ack) (a .i + 2) (omega arith) (omega arith)
+    ∙ ap (λ (n : SeqNum). offsetOf n (a .ack) .0) (c .before .before .meant .ensures)
+    ∙ offset-of-meant (a .ack) (a .i) (omega arith) (omega arith)
 
-add-plus : tie.Need-add-plus
-add-plus c = search needs
-
-cast-plus : tie.Need-cast-plus
-cast-plus c = search needs
-
-plus-requires : tie.Need-plus-requires
-plus-requires c κs = search needs
+meant-requires : tie.Need-meant-requires
+meant-requires c κs = search needs
 
 past-requires : tie.Need-past-requires
 past-requires c κs = search needs
@@ -39,4 +33,4 @@ returns : tie.Need-returns
 returns c = omega (arith, far c)
 
 pub place-of-spec : {M : Type 1} → statement M
-place-of-spec = tie.close (tie.spec add-plus cast-plus plus-requires past-requires cast-result sub-result returns)
+place-of-spec = tie.close (tie.spec meant-requires past-requires cast-result sub-result returns)

@@ -3,8 +3,8 @@ use mathlib.Core.Path.{_∙_, ap, sym}
 use lib.ListN.{length}
 use Rattle.common.specs.Answer.{Answer}
 use Rattle.packet.specs.declared.header.Header.{Header}
-use Rattle.wire.specs.declared.kind.PacketType.{PacketType}
-use Rattle.wire.specs.Answers.{typeRead}
+use Rattle.packet.specs.declared.kind.PacketType.{PacketType}
+use Rattle.packet.specs.Answers.{typeRead}
 use Rattle.packet.specs.Encode.{encodeOf, roomOf}
 use Rattle.ribsaddle.specs.Answer.{numberOf, valueOr}
 use Rattle.ribsaddle.specs.Codec.{writeAs, roomAs, writingOf, writingRoomOf}

@@ -1,7 +1,7 @@
 -- `ribsaddle::tracker::transmit` meets its contract. A known type goes to the tracker; another is refused, behind the soundness test.
 use mathlib.Core.Path.{_∙_, ap, refl, sym}
 use mathlib.Core.Bool.{true, false}
-use Rattle.wire.specs.Answers.{typeRead}
+use Rattle.packet.specs.Answers.{typeRead}
 use Rattle.ribsaddle.specs.Tracker.{headingAs}
 use Rattle.ribsaddle.specs.Laws.Tracker.{left-transmitted, left-unknown}
 use borrow.Author.Needs.{needs}

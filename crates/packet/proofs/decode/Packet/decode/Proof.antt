@@ -4,14 +4,14 @@ use mathlib.Core.Path.{_≡_, _∙_, sym, ap}
 use lib.ListN.{length, getD}
 use denote.Ref.{now}
 use Rattle.common.specs.Answer.{done, refused}
-use Rattle.wire.specs.Answers.{typeRead}
-use Rattle.wire.specs.Kind.{typeAnswer}
+use Rattle.packet.specs.Answers.{typeRead}
+use Rattle.packet.specs.Kind.{typeAnswer}
 use Rattle.packet.specs.Layout.{headerWith}
 use Rattle.packet.specs.Decode.{behindHeader, chainOf}
-use Rattle.wire.specs.Laws.Kind.{type-unknown, type-known}
+use Rattle.packet.specs.Laws.Kind.{type-unknown, type-known}
 use Rattle.packet.specs.Laws.Decode.{decode-short, decode-type, decode-version, decode-behind}
 use Rattle.packet.specs.declared.header.Header.{Header}
-use Rattle.wire.specs.declared.kind.PacketType.{PacketType}
+use Rattle.packet.specs.declared.kind.PacketType.{PacketType}
 use borrow.Author.Needs.{needs}
 use Rattle.packet.proofs.decode.Packet.decode.Statement.{statement}
 use Rattle.packet.proofs.decode.Packet.decode.Tie as tie

@@ -9,7 +9,7 @@ use denote.Ref.{now}
 use Rattle.common.specs.Answer.{Answer, done, refused, _then_}
 use Rattle.common.specs.Laws.Put.{put}
 use Rattle.packet.specs.Answers.{found}
-use Rattle.wire.specs.Sack.{maskAnswer}
+use Rattle.packet.specs.Sack.{maskAnswer}
 use Rattle.packet.specs.Encode.{packetBytes, sizeOf, dataAnswer, encodeOf, roomOf, writtenTo}
 use Rattle.packet.specs.Laws.Encode.{encode-unfit, encode-no-room, encode-written, mask-short}
 use Rattle.packet.specs.declared.header.Header.{Header}

@@ -12,8 +12,8 @@ use mathlib.Core.Path.{ap₂}
 use Prim.Native.Nat.{_<_}
 use lib.ListN.{getD}
 use lib.Seq.{slice}
-use Rattle.wire.specs.declared.seq.SeqNum.{SeqNum}
-use Rattle.wire.specs.declared.kind.PacketType.{PacketType}
+use Rattle.seq.specs.declared.SeqNum.{SeqNum}
+use Rattle.packet.specs.declared.kind.PacketType.{PacketType}
 use Rattle.outgoing.specs.declared.answer.LostPacket.{LostPacket}
 use Rattle.outgoing.specs.Tracker.{noPacket}
 use Rattle.outgoing.specs.Lost.{lostPacketOf, lostAtOf, lostCountOf, wrapPlace, lostPlaceOf}

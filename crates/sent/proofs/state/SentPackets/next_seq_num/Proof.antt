@@ -2,9 +2,9 @@
 use mathlib.Core.Path.{_∙_, ap}
 use Rattle.outgoing.specs.Read.{nextSeqNumIn}
 use Rattle.sent.specs.Laws.Sound.{read-told}
-use Rattle.wire.specs.Seq.{plusOf}
-use Rattle.wire.specs.Laws.Seq.{plus-plus}
-use Rattle.wire.specs.declared.seq.SeqNum.{SeqNum}
+use Rattle.seq.specs.Seq.{plusOf}
+use Rattle.seq.specs.Laws.{plus-plus}
+use Rattle.seq.specs.declared.SeqNum.{SeqNum}
 use borrow.Author.Needs.{needs}
 use Rattle.sent.proofs.state.SentPackets.next_seq_num.Statement.{statement}
 use Rattle.sent.proofs.state.SentPackets.next_seq_num.Tie as tie

@@ -5,7 +5,7 @@ use Prim.Native.Nat.{ℕ}
 use denote.Ref.{now}
 use lib.ListN.{length}
 use borrow.Author.Tests.{not-true, not-false}
-use Rattle.wire.specs.declared.seq.Offset.{Offset}
+use Rattle.seq.specs.declared.Offset.{Offset}
 use Rattle.outgoing.specs.Answers.{outcome}
 use Rattle.outgoing.specs.Tracker.{offsetIn}
 use Rattle.outgoing.specs.Ack.{ackCheck, ackOf}

@@ -5,7 +5,7 @@ use Prim.Native.Nat.{ℕ}
 use native.Mathlib.Omega.{arith}
 use lib.ListN.{length, length-map}
 use Rattle.common.specs.Answer.{done}
-use Rattle.wire.specs.declared.seq.Offset.{Offset}
+use Rattle.seq.specs.declared.Offset.{Offset}
 use Rattle.outgoing.specs.declared.kept.Packet.{Packet}
 use Rattle.outgoing.specs.Answers.{outcome}
 use Rattle.outgoing.specs.Tracker.{offsetIn, clockedOf}

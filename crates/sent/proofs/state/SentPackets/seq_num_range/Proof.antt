@@ -2,7 +2,7 @@
 use mathlib.Core.Path.{_∙_, ap}
 use Rattle.outgoing.specs.Read.{seqNumRangeIn}
 use Rattle.sent.specs.Laws.Sound.{read-told}
-use Rattle.wire.specs.Seq.{rangeOf}
+use Rattle.seq.specs.Seq.{rangeOf}
 use borrow.Author.Needs.{needs}
 use Rattle.sent.proofs.state.SentPackets.seq_num_range.Statement.{statement}
 use Rattle.sent.proofs.state.SentPackets.seq_num_range.Tie as tie

@@ -4,9 +4,9 @@ use Rattle.outgoing.specs.Read.{nextSeqNumIn}
 use Rattle.sent.specs.Laws.Sound.{read-told}
 use Rattle.sent.specs.declared.state.SentPackets.{SentPackets}
 use Rattle.sent_lent.specs.Lent.{wholeIn}
-use Rattle.wire.specs.Seq.{plusOf}
-use Rattle.wire.specs.Laws.Seq.{plus-plus}
-use Rattle.wire.specs.declared.seq.SeqNum.{SeqNum}
+use Rattle.seq.specs.Seq.{plusOf}
+use Rattle.seq.specs.Laws.{plus-plus}
+use Rattle.seq.specs.declared.SeqNum.{SeqNum}
 use borrow.Author.Needs.{needs}
 use Rattle.sent_lent.proofs.head.Head.next_seq_num.Statement.{statement}
 use Rattle.sent_lent.proofs.head.Head.next_seq_num.Tie as tie

@@ -4,7 +4,7 @@ use Rattle.outgoing.specs.Read.{seqNumRangeIn}
 use Rattle.sent.specs.Laws.Sound.{read-told}
 use Rattle.sent.specs.declared.state.SentPackets.{SentPackets}
 use Rattle.sent_lent.specs.Lent.{wholeIn}
-use Rattle.wire.specs.Seq.{rangeOf}
+use Rattle.seq.specs.Seq.{rangeOf}
 use borrow.Author.Needs.{needs}
 use Rattle.sent_lent.proofs.head.Head.seq_num_range.Statement.{statement}
 use Rattle.sent_lent.proofs.head.Head.seq_num_range.Tie as tie

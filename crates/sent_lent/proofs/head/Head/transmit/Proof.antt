@@ -6,7 +6,7 @@ use native.Mathlib.Omega.{arith}
 use denote.Ref.{now}
 use lib.ListN.{length}
 use Rattle.common.specs.Answer.{done}
-use Rattle.wire.specs.declared.seq.Offset.{Offset}
+use Rattle.seq.specs.declared.Offset.{Offset}
 use Rattle.outgoing.specs.declared.kept.Packet.{Packet}
 use Rattle.sent.specs.declared.state.SentPackets.{SentPackets}
 use Rattle.outgoing.specs.Answers.{outcome}
