@@ -16,13 +16,13 @@ pub enum Error {
     /// An extension's head or body runs past the end.
     Extension = 4,
     /// A selective ACK of 1 to 3 bytes; in decoding, of 0 to 3.
-    SelectiveAckShort = 5,
+    SackShort = 5,
     /// A selective ACK of 4 bytes or more, not a multiple of 4.
-    SelectiveAckNotWords = 6,
+    SackNotWords = 6,
     /// Data with an empty payload.
-    EmptyDataPayload = 7,
+    EmptyData = 7,
     /// A selective ACK above 252 bytes.
-    SelectiveAckLong = 8,
+    SackLong = 8,
     /// The output room is too small.
     NoRoom = 9,
     /// A setting out of range.
@@ -54,10 +54,10 @@ impl Error {
         Error::UnknownType,
         Error::UnknownVersion,
         Error::Extension,
-        Error::SelectiveAckShort,
-        Error::SelectiveAckNotWords,
-        Error::EmptyDataPayload,
-        Error::SelectiveAckLong,
+        Error::SackShort,
+        Error::SackNotWords,
+        Error::EmptyData,
+        Error::SackLong,
         Error::NoRoom,
         Error::BadSetting,
         Error::BadTime,
@@ -89,10 +89,10 @@ impl fmt::Display for Error {
             Self::UnknownType => "packet type above 4",
             Self::UnknownVersion => "version not 1",
             Self::Extension => "extension runs past the end",
-            Self::SelectiveAckShort => "selective ACK under 4 bytes",
-            Self::SelectiveAckNotWords => "selective ACK not a multiple of 4 bytes",
-            Self::EmptyDataPayload => "Data with empty payload",
-            Self::SelectiveAckLong => "selective ACK above 252 bytes",
+            Self::SackShort => "selective ACK under 4 bytes",
+            Self::SackNotWords => "selective ACK not a multiple of 4 bytes",
+            Self::EmptyData => "Data with empty payload",
+            Self::SackLong => "selective ACK above 252 bytes",
             Self::NoRoom => "output room too small",
             Self::BadSetting => "setting out of range",
             Self::BadTime => "time out of range or behind the last",

@@ -140,7 +140,7 @@ impl<'a> Packet<'a> {
     /// assert_eq!(packet.selective_ack(), None);
     ///
     /// let refused = Packet::decode(&datagram[..20]).unwrap_err();
-    /// assert_eq!(refused, Error::EmptyDataPayload);
+    /// assert_eq!(refused, Error::EmptyData);
     /// assert_eq!(refused.number(), 7);
     /// # Ok::<(), Error>(())
     /// ```

@@ -38,12 +38,12 @@ fn packets() {
     let mut room = [0; 21];
     assert_eq!(packet.encode(&mut room), Ok(21));
     assert_eq!(room, P1);
-    assert_eq!(Packet::decode(&P1[..20]), Err(Error::EmptyDataPayload));
+    assert_eq!(Packet::decode(&P1[..20]), Err(Error::EmptyData));
     let p3 = state(1, &[0, 4, 5, 0, 0, 0x80]);
     let sack = Packet::decode(&p3).unwrap().selective_ack().unwrap();
     let set: Vec<usize> = sack.acked().enumerate().filter(|(_, bit)| *bit).map(|(place, _)| place).collect();
     assert_eq!((set, sack.acked().count()), (vec![0, 2, 31], 32));
-    assert_eq!(Packet::decode(&state(1, &[0, 5, 5, 0, 0, 0x80, 0])), Err(Error::SelectiveAckNotWords));
+    assert_eq!(Packet::decode(&state(1, &[0, 5, 5, 0, 0, 0x80, 0])), Err(Error::SackNotWords));
     assert_eq!(Packet::decode(&state(1, &[0, 4, 5, 0, 0])), Err(Error::Extension));
 }
 
@@ -52,7 +52,7 @@ fn refusals_of_the_codec() {
     assert_eq!(Packet::decode(&[]), Err(Error::TooShort));
     assert_eq!(Packet::decode(&[0x51; 20]), Err(Error::UnknownType));
     assert_eq!(Packet::decode(&[0x22; 20]), Err(Error::UnknownVersion));
-    assert_eq!(Packet::decode(&state(1, &[0, 0])), Err(Error::SelectiveAckShort));
+    assert_eq!(Packet::decode(&state(1, &[0, 0])), Err(Error::SackShort));
     let plain = PacketBuilder::new(PacketType::State, 0, 0, 0, 0);
     let mut room = [0xEE; 300];
     let mut encode = |sack: &[u8]| {
@@ -60,12 +60,12 @@ fn refusals_of_the_codec() {
         assert_eq!(room, [0xEE; 300], "a refusal writes nothing");
         answer
     };
-    assert_eq!(encode(&[0; 3]), Err(Error::SelectiveAckShort));
-    assert_eq!(encode(&[0; 257]), Err(Error::SelectiveAckNotWords));
-    assert_eq!(encode(&[0; 256]), Err(Error::SelectiveAckLong));
+    assert_eq!(encode(&[0; 3]), Err(Error::SackShort));
+    assert_eq!(encode(&[0; 257]), Err(Error::SackNotWords));
+    assert_eq!(encode(&[0; 256]), Err(Error::SackLong));
     assert_eq!(
         PacketBuilder::new(PacketType::Data, 0, 0, 0, 0).build().encode(&mut room),
-        Err(Error::EmptyDataPayload)
+        Err(Error::EmptyData)
     );
     assert_eq!(plain.build().encode(&mut []), Err(Error::NoRoom));
 }

@@ -1,6 +1,5 @@
 // One event of a session: what is done to the controller, and what it must then show.
 use controller::answer::Answer;
-use controller::answer::Reason;
 use controller::state::Controller;
 use controller::state::Outcome;
 use controller::state::Packet;
@@ -12,20 +11,10 @@ use feed::both;
 // answer, source, in flight, maximum, timeout, round trip, variance.
 pub const WIDTHS: [u8; 13] = [1, 1, 4, 8, 8, 8, 1, 1, 4, 4, 8, 8, 8];
 
-pub(crate) fn number_of_reason(reason: Reason) -> u64 {
-    match reason {
-        Reason::SettingOutOfRange => 10,
-        Reason::TimeOutOfRange => 11,
-        Reason::NotSent => 12,
-        Reason::WindowFull => 13,
-        Reason::NotSound => 19,
-    }
-}
-
 pub(crate) fn number_of(answer: Answer) -> u64 {
     match answer {
         Answer::Done => 0,
-        Answer::Refused(reason) => number_of_reason(reason),
+        Answer::Refused(reason) => reason.number() as u64,
     }
 }
 

@@ -1,5 +1,8 @@
 -- Every public function of the crate, in the order of the source: nothing is asked of its caller, and no two different outcomes satisfy its promise.
-use Rattle.common.specs.Promise.{Promise, by-value}
+use Rattle.common.specs.Promise.{Promise, by-value, by-code}
+use Rattle.controller.specs.Answers.{outcome}
+use Rattle.controller.specs.Laws.OneToOne.{outcome-one-to-one}
+use Rattle.controller.proofs.answer.Reason.number.Reads as reason-number
 use Rattle.controller.proofs.delays.expired.Reads as delays-expired
 use Rattle.controller.proofs.delays.room.Reads as delays-room
 use Rattle.controller.proofs.delays.Delays.none.Reads as delays-none
@@ -16,6 +19,9 @@ use Rattle.controller.proofs.state.Controller.free_window.Reads as cont
 use Rattle.controller.proofs.state.Controller.in_flight.Reads as controller-in-flight
 use Rattle.controller.proofs.state.Controller.maximum.Reads as controller-maximum
 use Rattle.controller.proofs.state.Controller.timeout.Reads as controller-timeout
+
+reason-number-promise : Promise reason-number.Pre reason-number.Post (λ κs r s. r)
+reason-number-promise = by-value _ (λ κs a. tt) (λ κs a r s p. p)
 
 delays-expired-promise : Promise delays-expired.Pre delays-expired.Post (λ κs r s. r)
 delays-expired-promise = by-value _ (λ κs a. tt) (λ κs a r s p. p)
@@ -36,22 +42,22 @@ delays-take-promise : Promise delays-take.Pre delays-take.Post (λ κs r s. r)
 delays-take-promise = by-value _ (λ κs a. tt) (λ κs a r s p. p)
 
 controller-new-promise : Promise controller-new.Pre controller-new.Post (λ κs r s. r)
-controller-new-promise = by-value _ (λ κs a. tt) (λ κs a r s p. p)
+controller-new-promise = by-code outcome outcome-one-to-one _ (λ κs a. tt) (λ κs a r s p. p)
 
 controller-sound-promise : Promise controller-sound.Pre controller-sound.Post (λ κs r s. r)
 controller-sound-promise = by-value _ (λ κs a. tt) (λ κs a r s p. p)
 
 controller-on-transmit-promise : Promise controller-on-transmit.Pre controller-on-transmit.Post (λ κs r s. r)
-controller-on-transmit-promise = by-value _ (λ κs a. tt) (λ κs a r s p. p)
+controller-on-transmit-promise = by-code outcome outcome-one-to-one _ (λ κs a. tt) (λ κs a r s p. p)
 
 controller-on-ack-promise : Promise controller-on-ack.Pre controller-on-ack.Post (λ κs r s. r)
-controller-on-ack-promise = by-value _ (λ κs a. tt) (λ κs a r s p. p)
+controller-on-ack-promise = by-code outcome outcome-one-to-one _ (λ κs a. tt) (λ κs a r s p. p)
 
 controller-on-loss-promise : Promise controller-on-loss.Pre controller-on-loss.Post (λ κs r s. r)
-controller-on-loss-promise = by-value _ (λ κs a. tt) (λ κs a r s p. p)
+controller-on-loss-promise = by-code outcome outcome-one-to-one _ (λ κs a. tt) (λ κs a r s p. p)
 
 controller-on-timeout-promise : Promise controller-on-timeout.Pre controller-on-timeout.Post (λ κs r s. r)
-controller-on-timeout-promise = by-value _ (λ κs a. tt) (λ κs a r s p. p)
+controller-on-timeout-promise = by-code outcome outcome-one-to-one _ (λ κs a. tt) (λ κs a r s p. p)
 
 controller-free-window-promise : Promise controller-free-window.Pre controller-free-window.Post (λ κs r s. r)
 controller-free-window-promise = by-value _ (λ κs a. tt) (λ κs a r s p. p)

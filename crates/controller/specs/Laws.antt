@@ -3,4 +3,4 @@ pub mod Delays
 pub mod Samples
 pub mod Base
 pub mod Controller
-pub mod Answer
+pub mod OneToOne

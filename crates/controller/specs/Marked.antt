@@ -32,14 +32,14 @@ session =
 
 -- two packets of 1,000 sent
 abbrev twoSent : Controller
-twoSent = onTransmitOf (onTransmitOf (controllerOf session .controller) (Initial 1000) 0 .controller) (Initial 1000) 0 .controller
+twoSent = onTransmitOf (onTransmitOf (controllerOf session .1) (Initial 1000) 0 .1) (Initial 1000) 0 .1
 
 -- one of them acknowledged after 100,000, with this delay
 abbrev packet : Packet
 packet = record { length = 1000; once = true; at = 0 }
 
 abbrev ackedWith : Controller → ℕ → Controller
-ackedWith c delay = onAckOf c packet delay 100000 .controller
+ackedWith c delay = onAckOf c packet delay 100000 .1
 
 -- the adjustment that the acknowledgement makes
 abbrev adjustmentBy : Controller → ℕ → ℤ

@@ -9,6 +9,7 @@ ghost use mathlib.Core.Path.{_≡_};
 ghost use mathlib.Core.Bool.{true};
 ghost use Prim.Native.Nat.{_≤_, _^_};
 ghost use Rattle.congestion.specs.Numbers.{freeOf, soundOf};
+ghost use Rattle.controller.specs.Answers.{reasonNumber, outcome};
 ghost use Rattle.controller.specs.Controller.{doneOf, refusedOf, controllerSoundOf, controllerOf, inTimeOf, sendOf, onTransmitOf, creditOf, onAckOf, onLossOf, onTimeoutOf};
 
 #[repr(C)]
@@ -38,7 +39,7 @@ pub struct Packet {
 }
 
 fn done(numbers: Numbers, delays: Delays) -> Outcome
-    ensures { λ r. ⌜ r ≡ doneOf numbers delays ⌝ }
+    ensures { λ r. ⌜ outcome r ≡ doneOf numbers delays ⌝ }
 {
     Outcome {
         answer: Answer::Done,
@@ -58,7 +59,7 @@ impl Controller {
 
     // A controller at its start. Refused: 10, with a controller that is not sound.
     pub fn new(settings: Settings) -> Outcome
-        ensures { λ r. ⌜ r ≡ controllerOf settings ⌝ }
+        ensures { λ r. ⌜ outcome r ≡ controllerOf settings ⌝ }
     {
         let numbers = Numbers::new(settings);
         let delays = Delays::none();
@@ -70,7 +71,7 @@ impl Controller {
             };
         }
         Outcome {
-            answer: Answer::Refused(Reason::SettingOutOfRange),
+            answer: Answer::Refused(Reason::BadSetting),
             controller,
         }
     }
@@ -85,7 +86,7 @@ impl Controller {
     }
 
     fn refused(self, reason: Reason) -> Outcome
-        ensures { λ r. ⌜ r ≡ refusedOf self reason ⌝ }
+        ensures { λ r. ⌜ outcome r ≡ refusedOf self (reasonNumber reason) ⌝ }
     {
         Outcome {
             answer: Answer::Refused(reason),
@@ -102,7 +103,7 @@ impl Controller {
 
     // A transmit of a sound controller at an accepted time.
     fn send(self, transmit: Transmit, clock: u64) -> Outcome
-        ensures { λ r. ⌜ r ≡ sendOf self transmit clock ⌝ }
+        ensures { λ r. ⌜ outcome r ≡ sendOf self transmit clock ⌝ }
     {
         let numbers = self.numbers;
         let delays = self.delays;
@@ -110,7 +111,7 @@ impl Controller {
             return done(numbers.accepted(clock), delays);
         };
         if numbers.free_window() < len {
-            return self.refused(Reason::WindowFull);
+            return self.refused(Reason::NoWindow);
         }
         done(numbers.transmitted(len).accepted(clock), delays)
     }
@@ -118,13 +119,13 @@ impl Controller {
     // A transmit. Refused: 19, 11, and a first one that the free window does not hold with 13. The
     // window is checked before anything is recorded.
     pub fn on_transmit(self, transmit: Transmit, clock: u64) -> Outcome
-        ensures { λ r. ⌜ r ≡ onTransmitOf self transmit clock ⌝ }
+        ensures { λ r. ⌜ outcome r ≡ onTransmitOf self transmit clock ⌝ }
     {
         if !self.sound() {
             return self.refused(Reason::NotSound);
         }
         if !self.in_time(clock) {
-            return self.refused(Reason::TimeOutOfRange);
+            return self.refused(Reason::BadTime);
         }
         self.send(transmit, clock)
     }
@@ -132,7 +133,7 @@ impl Controller {
     // The sample taken, and the packet credited to the window and the round trip.
     fn credit(self, packet: Packet, delay: u64, clock: u64) -> Outcome
         requires { ⌜ (soundOf (self .numbers) ≡ true) × (clock ≤ 2 ^ 50) × (packet .at ≤ clock) ⌝ }
-        ensures { λ r. ⌜ r ≡ creditOf self packet delay clock ⌝ }
+        ensures { λ r. ⌜ outcome r ≡ creditOf self packet delay clock ⌝ }
     {
         let numbers = self.numbers;
         let delays = self.delays;
@@ -145,13 +146,13 @@ impl Controller {
     // A newly acknowledged packet. Refused: 19; 11, also for a delay above 2^50 and a packet sent after
     // `clock`; 12 where less than its length is in flight.
     pub fn on_ack(self, packet: Packet, delay: u64, clock: u64) -> Outcome
-        ensures { λ r. ⌜ r ≡ onAckOf self packet delay clock ⌝ }
+        ensures { λ r. ⌜ outcome r ≡ onAckOf self packet delay clock ⌝ }
     {
         if !self.sound() {
             return self.refused(Reason::NotSound);
         }
         if !(self.in_time(clock) & (delay <= Controller::LATEST) & (packet.at <= clock)) {
-            return self.refused(Reason::TimeOutOfRange);
+            return self.refused(Reason::BadTime);
         }
         if self.numbers.in_flight < packet.length {
             return self.refused(Reason::NotSent);
@@ -161,7 +162,7 @@ impl Controller {
 
     // A new loss. Refused: 19.
     pub fn on_loss(self) -> Outcome
-        ensures { λ r. ⌜ r ≡ onLossOf self ⌝ }
+        ensures { λ r. ⌜ outcome r ≡ onLossOf self ⌝ }
     {
         if !self.sound() {
             return self.refused(Reason::NotSound);
@@ -173,7 +174,7 @@ impl Controller {
 
     // A timeout event. Refused: 19.
     pub fn on_timeout(self) -> Outcome
-        ensures { λ r. ⌜ r ≡ onTimeoutOf self ⌝ }
+        ensures { λ r. ⌜ outcome r ≡ onTimeoutOf self ⌝ }
     {
         if !self.sound() {
             return self.refused(Reason::NotSound);

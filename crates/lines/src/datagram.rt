@@ -3,7 +3,6 @@
 // is none; AT and LENGTH are the payload's place and length. Refused: INDEX NUMBER.
 ghost use Prim.Native.Nat.{_≤_, max};
 ghost use lib.ListN.{length};
-use crate::answer::of_reason;
 use packet::decode::Decoded;
 use packet::decode::Packet;
 use packet::header::Header;
@@ -30,7 +29,7 @@ fn put_answer(room: &mut [u8], at: usize, datagram: &[u8]) -> usize
 {
     match Packet::decode(datagram) {
         Decoded::Accepted(packet) => put_packet(room, at, packet, datagram),
-        Decoded::Undecoded(reason) => put_next(room, at, of_reason(reason)),
+        Decoded::Undecoded(reason) => put_next(room, at, reason.number() as u64),
     }
 }
 

@@ -1,3 +1,2 @@
-// Document 01's number of each answer of the codec, and the line that shows a datagram.
-pub mod answer;
+// The line that shows a datagram.
 pub mod datagram;

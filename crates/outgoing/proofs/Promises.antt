@@ -2,6 +2,7 @@
 use Rattle.common.specs.Promise.{Promise, by-value, by-code}
 use Rattle.outgoing.specs.Answers.{outcome, numberTold, seqTold, rangeTold, truthTold}
 use Rattle.outgoing.specs.Laws.OneToOne.{outcome-one, number-one, seq-one, range-one, truth-one}
+use Rattle.outgoing.proofs.answer.Reason.number.Reads as reason-number
 use Rattle.outgoing.proofs.ack.ack_check.Reads as ack-check
 use Rattle.outgoing.proofs.ack.Ack.keeps.Reads as keeps
 use Rattle.outgoing.proofs.ack.Ack.credited.Reads as credited
@@ -25,6 +26,9 @@ use Rattle.outgoing.proofs.told.truth_told.Reads as truth-told
 use Rattle.outgoing.proofs.told.any_told.Reads as any-told
 use Rattle.outgoing.proofs.told.last_acked.Reads as last-acked
 use Rattle.outgoing.proofs.transmit.transmit_check.Reads as transmit-check
+
+reason-number-promise : Promise reason-number.Pre reason-number.Post (λ κs r s. r)
+reason-number-promise = by-value _ (λ κs a. tt) (λ κs a r s p. p)
 
 ack-check-promise : Promise ack-check.Pre ack-check.Post (λ κs r s. r)
 ack-check-promise = by-code outcome outcome-one _ (λ κs a. tt) (λ κs a r s p. p)

@@ -1,4 +1,6 @@
 // What the tracker's functions answer. Each refusal holds its reason.
+ghost use mathlib.Core.Path.{_≡_};
+ghost use Rattle.outgoing.specs.Answers.{reasonNumber};
 use packet::kind::PacketType;
 use packet::sack::SackReason;
 use seq::CircularRangeInclusive;
@@ -17,6 +19,24 @@ pub enum Reason {
     NoPlace,
     TooMany,
     NotSound,
+}
+
+impl Reason {
+    // The number of the refusal.
+    pub fn number(self) -> u32
+        ensures { λ r. ⌜ r ≡ reasonNumber self ⌝ }
+    {
+        match self {
+            Reason::BadSack(reason) => reason.number(),
+            Reason::BadSetting => 10,
+            Reason::BadTime => 11,
+            Reason::NotSent => 12,
+            Reason::NoWindow => 13,
+            Reason::NoPlace => 14,
+            Reason::TooMany => 15,
+            Reason::NotSound => 19,
+        }
+    }
 }
 
 pub enum Outcome {

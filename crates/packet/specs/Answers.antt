@@ -2,22 +2,29 @@
 -- same number and values. Definitions only.
 use Prim.Native.Nat.{ℕ}
 use Rattle.common.specs.Answer.{Answer, done, refused}
+use Rattle.packet.specs.Chain.{Next, ends, onward, Sacked, nowhere, inside}
 use Rattle.packet.specs.declared.kind.PacketType.{PacketType}
 use Rattle.packet.specs.declared.kind.TypeRead.{TypeRead}
-use Rattle.packet.specs.declared.kind.TypeRead.the-variants.{Known, Unknown}
+use Rattle.packet.specs.declared.kind.TypeRead.the-variants.{Known, UnknownType as TypeUnknown}
 use Rattle.packet.specs.declared.sack.SackReason.{SackReason}
-use Rattle.packet.specs.declared.sack.SackReason.the-variants.{Insufficient, NotWords, TooLong}
+use Rattle.packet.specs.declared.sack.SackReason.the-variants.{SackShort, SackNotWords, SackLong}
 use Rattle.packet.specs.declared.sack.Checked.{Checked}
 use Rattle.packet.specs.declared.sack.Checked.the-variants.{Fine, Bad}
 use Rattle.packet.specs.declared.header.HeaderReason.{HeaderReason}
 use Rattle.packet.specs.declared.header.HeaderReason.the-variants.{TooShort, UnknownType, UnknownVersion}
+use Rattle.packet.specs.declared.extension.Step.{Step}
+use Rattle.packet.specs.declared.extension.Step.the-variants.{Ends, Extension as StepPast, Found as StepFound}
+use Rattle.packet.specs.declared.extension.End.{End}
+use Rattle.packet.specs.declared.extension.End.the-variants.{Extension as EndPast, At}
+use Rattle.packet.specs.declared.extension.ChainRead.{ChainRead}
+use Rattle.packet.specs.declared.extension.ChainRead.the-variants.{Extension as ReadPast, Plain, WithSack}
 use Rattle.packet.specs.declared.decode.Packet.{Packet}
 use Rattle.packet.specs.declared.decode.Reason.{Reason}
-use Rattle.packet.specs.declared.decode.Reason.the-variants.{InHeader, InExtension, InSack, EmptyPayload}
+use Rattle.packet.specs.declared.decode.Reason.the-variants.{BadHeader, Extension, BadSack, EmptyData}
 use Rattle.packet.specs.declared.decode.Decoded.{Decoded}
 use Rattle.packet.specs.declared.decode.Decoded.the-variants.{Accepted, Undecoded}
 use Rattle.packet.specs.declared.encode.Unwritten.{Unwritten}
-use Rattle.packet.specs.declared.encode.Unwritten.the-variants.{BadSack, NoPayload, NoRoom}
+use Rattle.packet.specs.declared.encode.Unwritten.the-variants.{BadSack as UnwrittenSack, EmptyData as UnwrittenData, NoRoom}
 use Rattle.packet.specs.declared.encode.Found.{Found}
 use Rattle.packet.specs.declared.encode.Found.the-variants.{Fit, Unfit}
 use Rattle.packet.specs.declared.encode.Encoded.{Encoded}
@@ -25,16 +32,30 @@ use Rattle.packet.specs.declared.encode.Encoded.the-variants.{Written, R
 
 abbrev pub typeRead : TypeRead → Answer PacketType
 typeRead (Known t) = done t
-typeRead Unknown = refused 2
+typeRead TypeUnknown = refused 2
 
 abbrev pub sackNumber : SackReason → ℕ
-sackNumber Insufficient = 5
-sackNumber NotWords = 6
-sackNumber TooLong = 8
+sackNumber SackShort = 5
+sackNumber SackNotWords = 6
+sackNumber SackLong = 8
 
 abbrev pub checked : Checked → Answer ℕ
 checked (Fine n) = done n
 checked (Bad r) = refused (sackNumber r)
+
+abbrev pub stepped : Step → Answer Next
+stepped Ends = done ends
+stepped (StepFound e next) = done (onward e next)
+stepped StepPast = refused 4
+
+abbrev pub ended : End → Answer ℕ
+ended (At n) = done n
+ended EndPast = refused 4
+
+abbrev pub chainRead : ChainRead → Answer (Sacked × ℕ)
+chainRead (Plain at) = done (nowhere, at)
+chainRead (WithSack p at) = done (inside p, at)
+chainRead ReadPast = refused 4
 
 abbrev pub headerNumber : HeaderReason → ℕ
 headerNumber TooShort = 1
@@ -42,18 +63,18 @@ headerNumber UnknownType = 2
 headerNumber UnknownVersion = 3
 
 abbrev pub reasonNumber : Reason → ℕ
-reasonNumber (InHeader r) = headerNumber r
-reasonNumber InExtension = 4
-reasonNumber (InSack r) = sackNumber r
-reasonNumber EmptyPayload = 7
+reasonNumber (BadHeader r) = headerNumber r
+reasonNumber Extension = 4
+reasonNumber (BadSack r) = sackNumber r
+reasonNumber EmptyData = 7
 
 abbrev pub decoded : Decoded → Answer Packet
 decoded (Accepted p) = done p
 decoded (Undecoded r) = refused (reasonNumber r)
 
 abbrev pub unwrittenNumber : Unwritten → ℕ
-unwrittenNumber (BadSack r) = sackNumber r
-unwrittenNumber NoPayload = 7
+unwrittenNumber (UnwrittenSack r) = sackNumber r
+unwrittenNumber UnwrittenData = 7
 unwrittenNumber NoRoom = 9
 
 abbrev pub found : Found → Answer ℕ

@@ -4,15 +4,10 @@ use mathlib.Core.Bool.{cond}
 use mathlib.Core.List.{List, [], _∷_}
 use lib.ListN.{length, getD}
 use lib.Dec.{leb, eqb}
+use Rattle.common.specs.Answer.{Answer, done, refused}
 use Rattle.packet.specs.declared.extension.Cursor.{Cursor}
 use Rattle.packet.specs.declared.extension.Extension.{Extension}
 use Rattle.packet.specs.declared.extension.Part.{Part}
-use Rattle.packet.specs.declared.extension.End.{End}
-use Rattle.packet.specs.declared.extension.End.the-variants.{PastEnd, At}
-use Rattle.packet.specs.declared.extension.ChainRead.{ChainRead}
-use Rattle.packet.specs.declared.extension.ChainRead.the-variants.{Past, Plain, WithSack}
-use Rattle.packet.specs.declared.extension.Step.{Step}
-use Rattle.packet.specs.declared.extension.Step.the-variants.{Ends, RunsPast, Found}
 
 -- An extension at a place: the next extension's number, the length, then that many bytes.
 abbrev pub extensionAt : List ℕ → Cursor → Extension
@@ -21,14 +16,19 @@ extensionAt d c = record { number = c .number; body = record { at = c .at + 2; l
 abbrev pub nextAt : List ℕ → Cursor → Cursor
 nextAt d c = record { number = getD d (c .at) 0; at = c .at + 2 + getD d (c .at + 1) 0 }
 
--- Where the current extension is 0 the chain ends. A head or a body that runs past the end of the datagram is a fault.
-abbrev pub stepOf : List ℕ → Cursor → Step
+-- What a step finds: the end of the chain, or an extension and where the next one stands.
+pub data Next : Type 0 where
+  ends : Next
+  onward : Extension → Cursor → Next
+
+-- Where the current extension is 0 the chain ends. 4: a head or a body that runs past the end of the datagram.
+abbrev pub stepOf : List ℕ → Cursor → Answer Next
 stepOf d c =
     cond (eqb (c .number) 0)
-    Ends
+    (done ends)
     (cond (leb (c .at + 2) (length d))
-    (cond (leb (c .at + 2 + getD d (c .at + 1) 0) (length d)) (Found (extensionAt d c) (nextAt d c)) RunsPast)
-    RunsPast)
+    (cond (leb (c .at + 2 + getD d (c .at + 1) 0) (length d)) (done (onward (extensionAt d c) (nextAt d c))) (refused 4))
+    (refused 4))
 
 -- A chain from a place on: it runs past the end, or it is a list of extensions, each with its number and its body's place and length, and the
 -- place behind the last.
@@ -41,10 +41,10 @@ before e past = past
 before e (whole es at) = whole (e ∷ es) at
 
 -- What a step makes of the chain: it ends here, it runs past the end, or the extension found and then the chain from the next place.
-abbrev pub goOn : ℕ → Step → (Cursor → Chain) → Chain
-goOn at Ends rest = whole [] at
-goOn at RunsPast rest = past
-goOn at (Found e next) rest = before e (rest next)
+abbrev pub goOn : ℕ → Answer Next → (Cursor → Chain) → Chain
+goOn at (done ends) rest = whole [] at
+goOn at (done (onward e next)) rest = before e (rest next)
+goOn at (refused n) rest = past
 
 -- While the current extension is not 0: one step, and then the chain from there. Each step goes forward by two bytes or more, so one step more than there are
 -- bytes is never used up (`chain-step` of Laws.Chain says this with no count of steps).
@@ -67,15 +67,11 @@ abbrev pub firstSack : List Extension → Sacked
 firstSack [] = nowhere
 firstSack (e ∷ es) = cond (eqb (e .number) 1) (inside (e .body)) (firstSack es)
 
--- What is kept of a chain: it runs past the end, or where it ends, and with it the body of the first SACK where there is one.
-abbrev pub endOf : Chain → End
-endOf past = PastEnd
-endOf (whole es at) = At at
+-- What is kept of a chain: where it ends, and with it the body of the first SACK where there is one. 4: it runs past the end.
+abbrev pub endOf : Chain → Answer ℕ
+endOf past = refused 4
+endOf (whole es at) = done at
 
-abbrev pub sackRead : Sacked → ℕ → ChainRead
-sackRead nowhere at = Plain at
-sackRead (inside p) at = WithSack p at
-
-abbrev pub readOf : Chain → ChainRead
-readOf past = Past
-readOf (whole es at) = sackRead (firstSack es) at
+abbrev pub readOf : Chain → Answer (Sacked × ℕ)
+readOf past = refused 4
+readOf (whole es at) = done (firstSack es, at)

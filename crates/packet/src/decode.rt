@@ -4,7 +4,7 @@ ghost use mathlib.Core.Path.{_≡_};
 ghost use lib.ListN.{length};
 ghost use Rattle.common.specs.Answer.{done};
 ghost use Rattle.packet.specs.Decode.{decodeOf, behindHeader, chainOf, packetOf, payloadAnswer};
-ghost use Rattle.packet.specs.Answers.{decoded};
+ghost use Rattle.packet.specs.Answers.{reasonNumber, decoded};
 use crate::extension::ChainRead;
 use crate::extension::Cursor;
 use crate::extension::Part;
@@ -27,15 +27,29 @@ pub struct Packet {
 
 // Why a datagram is refused: header 1, 2, 3; extension 4; SACK 5, 6; payload 7.
 pub enum Reason {
-    InHeader(HeaderReason),
-    InExtension,
-    InSack(SackReason),
-    EmptyPayload,
+    BadHeader(HeaderReason),
+    Extension,
+    BadSack(SackReason),
+    EmptyData,
 }
 
 pub enum Decoded {
     Accepted(Packet),
     Undecoded(Reason),
+}
+
+impl Reason {
+    // The number of the refusal.
+    pub fn number(self) -> u32
+        ensures { λ r. ⌜ r ≡ reasonNumber self ⌝ }
+    {
+        match self {
+            Reason::BadHeader(reason) => reason.number(),
+            Reason::Extension => 4,
+            Reason::BadSack(reason) => reason.number(),
+            Reason::EmptyData => 7,
+        }
+    }
 }
 
 impl Packet {
@@ -47,16 +61,18 @@ impl Packet {
         ensures { λ r. ⌜ decoded r ≡ decodeOf (now (datagram .entry)) ⌝ }
     {
         if datagram.len() < 20 {
-            return Decoded::Undecoded(Reason::InHeader(HeaderReason::TooShort));
+            return Decoded::Undecoded(Reason::BadHeader(HeaderReason::TooShort));
         }
         let first = datagram[0];
         match PacketType::of_number(first / 16) {
-            TypeRead::Unknown => Decoded::Undecoded(Reason::InHeader(HeaderReason::UnknownType)),
+            TypeRead::UnknownType => Decoded::Undecoded(Reason::BadHeader(
+                HeaderReason::UnknownType,
+            )),
             TypeRead::Known(packet_type) => {
                 if first % 16 == 1 {
                     decode_chain(datagram, read_header(datagram, packet_type))
                 } else {
-                    Decoded::Undecoded(Reason::InHeader(HeaderReason::UnknownVersion))
+                    Decoded::Undecoded(Reason::BadHeader(HeaderReason::UnknownVersion))
                 }
             }
         }
@@ -76,14 +92,14 @@ fn decode_chain(datagram: &[u8], header: Header) -> Decoded
             at: 20,
         },
     ) {
-        ChainRead::Past => Decoded::Undecoded(Reason::InExtension),
+        ChainRead::Extension => Decoded::Undecoded(Reason::Extension),
         ChainRead::Plain(at) => finish(size, header, Part { at: 0, len: 0 }, at),
         ChainRead::WithSack(sack, at) => {
             if sack.len < 4 {
-                return Decoded::Undecoded(Reason::InSack(SackReason::Insufficient));
+                return Decoded::Undecoded(Reason::BadSack(SackReason::SackShort));
             }
             if sack.len % 4 != 0 {
-                return Decoded::Undecoded(Reason::InSack(SackReason::NotWords));
+                return Decoded::Undecoded(Reason::BadSack(SackReason::SackNotWords));
             }
             finish(size, header, sack, at)
         }
@@ -96,7 +112,7 @@ fn finish(size: usize, header: Header, sack: Part, at: usize) -> Decoded
 {
     let len = less(size, at);
     if is_empty_data(header, len) {
-        return Decoded::Undecoded(Reason::EmptyPayload);
+        return Decoded::Undecoded(Reason::EmptyData);
     }
     let payload = Part { at, len };
     Decoded::Accepted(Packet {

@@ -7,7 +7,7 @@ ghost use Rattle.common.specs.Laws.Put.{put};
 ghost use Rattle.packet.specs.Encode.{encodeOf, roomOf, packetBytes, sizeOf, dataAnswer};
 ghost use Rattle.packet.specs.Sack.{maskAnswer};
 ghost use Rattle.common.specs.Answer.{_then_};
-ghost use Rattle.packet.specs.Answers.{found, encoded};
+ghost use Rattle.packet.specs.Answers.{unwrittenNumber, found, encoded};
 use crate::decode::Packet;
 use crate::header::Header;
 use crate::header::is_empty_data;
@@ -21,13 +21,26 @@ use crate::sack::check;
 // Why a packet is not written: its SACK's length 5, 6, 8; Data with no payload 7; room 9.
 pub enum Unwritten {
     BadSack(SackReason),
-    NoPayload,
+    EmptyData,
     NoRoom,
 }
 
 pub enum Encoded {
     Written(usize),
     Refused(Unwritten),
+}
+
+impl Unwritten {
+    // The number of the refusal.
+    pub fn number(self) -> u32
+        ensures { λ r. ⌜ r ≡ unwrittenNumber self ⌝ }
+    {
+        match self {
+            Unwritten::BadSack(reason) => reason.number(),
+            Unwritten::EmptyData => 7,
+            Unwritten::NoRoom => 9,
+        }
+    }
 }
 
 // What a check of one part of a packet finds.
@@ -51,7 +64,7 @@ fn data_part(header: Header, len: usize) -> Found
     ensures { λ r. ⌜ found r ≡ dataAnswer header len ⌝ }
 {
     if is_empty_data(header, len) {
-        return Found::Unfit(Unwritten::NoPayload);
+        return Found::Unfit(Unwritten::EmptyData);
     }
     Found::Fit(0)
 }

@@ -2,6 +2,7 @@
 ghost use mathlib.Core.Path.{_≡_};
 ghost use Rattle.packet.specs.Chain.{stepOf, chainFrom, endOf, readOf};
 ghost use Rattle.packet.specs.Decode.{partOf};
+ghost use Rattle.packet.specs.Answers.{stepped, ended, chainRead};
 
 // A part of a datagram, by its place and length.
 pub struct Part {
@@ -20,21 +21,24 @@ pub struct Cursor {
     pub at: usize,
 }
 
+// What a step finds: the end of the chain, an extension and where the next one stands, or a head or
+// body that runs past the end of the datagram (4).
 pub enum Step {
     Ends,
-    RunsPast,
+    Extension,
     Found(Extension, Cursor),
 }
 
-// Where a chain ends.
+// Where a chain ends, unless it runs past the end of the datagram (4).
 pub(crate) enum End {
-    PastEnd,
+    Extension,
     At(usize),
 }
 
-// What decoding keeps of a chain: where it ends, and the body of its first SACK.
+// What decoding keeps of a chain: where it ends, and the body of its first SACK, unless it runs past
+// the end of the datagram (4).
 pub(crate) enum ChainRead {
-    Past,
+    Extension,
     Plain(usize),
     WithSack(Part, usize),
 }
@@ -67,7 +71,7 @@ impl Part {
 impl Cursor {
     // One step along the chain.
     pub fn step(self, datagram: &[u8]) -> Step
-        ensures { λ r. ⌜ r ≡ stepOf (now (datagram .entry)) self ⌝ }
+        ensures { λ r. ⌜ stepped r ≡ stepOf (now (datagram .entry)) self ⌝ }
     {
         let number = self.number;
         let at = self.at;
@@ -75,14 +79,14 @@ impl Cursor {
             return Step::Ends;
         }
         if datagram.len() < 2 {
-            return Step::RunsPast;
+            return Step::Extension;
         }
         if datagram.len() - 2 < at {
-            return Step::RunsPast;
+            return Step::Extension;
         }
         let len = wide(datagram[at + 1]);
         if datagram.len() - at - 2 < len {
-            return Step::RunsPast;
+            return Step::Extension;
         }
         let body = Part { at: at + 2, len };
         Step::Found(
@@ -97,13 +101,13 @@ impl Cursor {
 
 // Walks the rest of a chain to its end.
 pub(crate) fn chain_end(datagram: &[u8], from: Cursor) -> End
-    ensures { λ r. ⌜ r ≡ endOf (chainFrom (now (datagram .entry)) from) ⌝ }
+    ensures { λ r. ⌜ ended r ≡ endOf (chainFrom (now (datagram .entry)) from) ⌝ }
 {
     let mut cursor = from;
     loop {
         match cursor.step(datagram) {
             Step::Ends => return End::At(cursor.at),
-            Step::RunsPast => return End::PastEnd,
+            Step::Extension => return End::Extension,
             Step::Found(_, next) => cursor = next,
         }
     }
@@ -111,18 +115,18 @@ pub(crate) fn chain_end(datagram: &[u8], from: Cursor) -> End
 
 // Walks the whole chain and keeps its first SACK.
 pub(crate) fn read_chain(datagram: &[u8], from: Cursor) -> ChainRead
-    ensures { λ r. ⌜ r ≡ readOf (chainFrom (now (datagram .entry)) from) ⌝ }
+    ensures { λ r. ⌜ chainRead r ≡ readOf (chainFrom (now (datagram .entry)) from) ⌝ }
 {
     let mut cursor = from;
     loop {
         match cursor.step(datagram) {
             Step::Ends => return ChainRead::Plain(cursor.at),
-            Step::RunsPast => return ChainRead::Past,
+            Step::Extension => return ChainRead::Extension,
             Step::Found(extension, next) => {
                 if extension.number == 1 {
                     let body = extension.body;
                     return match chain_end(datagram, next) {
-                        End::PastEnd => ChainRead::Past,
+                        End::Extension => ChainRead::Extension,
                         End::At(at) => ChainRead::WithSack(body, at),
                     };
                 }

@@ -4,6 +4,7 @@ ghost use mathlib.Core.Path.{_≡_};
 ghost use lib.ListN.{length};
 ghost use Rattle.common.specs.Laws.Put.{put};
 ghost use Rattle.packet.specs.Layout.{widths, bytesOf, fieldsOfHeader, headerWith, emptyData};
+ghost use Rattle.packet.specs.Answers.{headerNumber};
 use crate::kind::PacketType;
 use crate::number::put16;
 use crate::number::put32;
@@ -28,6 +29,19 @@ pub enum HeaderReason {
     TooShort,
     UnknownType,
     UnknownVersion,
+}
+
+impl HeaderReason {
+    // The number of the refusal.
+    pub fn number(self) -> u32
+        ensures { λ r. ⌜ r ≡ headerNumber self ⌝ }
+    {
+        match self {
+            HeaderReason::TooShort => 1,
+            HeaderReason::UnknownType => 2,
+            HeaderReason::UnknownVersion => 3,
+        }
+    }
 }
 
 // Is this Data with an empty payload?

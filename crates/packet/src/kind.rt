@@ -13,7 +13,7 @@ pub enum PacketType {
 
 pub enum TypeRead {
     Known(PacketType),
-    Unknown,
+    UnknownType,
 }
 
 impl PacketType {
@@ -40,7 +40,7 @@ impl PacketType {
             2 => TypeRead::Known(PacketType::State),
             3 => TypeRead::Known(PacketType::Reset),
             4 => TypeRead::Known(PacketType::Syn),
-            _ => TypeRead::Unknown,
+            _ => TypeRead::UnknownType,
         }
     }
 }

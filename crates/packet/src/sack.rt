@@ -3,20 +3,33 @@ ghost use mathlib.Core.Path.{_≡_};
 ghost use Prim.Native.Nat.{_/_, _%_, _^_};
 ghost use lib.Dec.{eqb};
 ghost use Rattle.packet.specs.Sack.{bitCountOf, bitOf, meantBy, maskAnswer};
-ghost use Rattle.packet.specs.Answers.{checked};
+ghost use Rattle.packet.specs.Answers.{sackNumber, checked};
 use seq::SeqNum;
 
 // What is wrong with a SACK's length: under 32 bits (5), no whole number of 32-bit words (6), above
 // 252 bytes (8).
 pub enum SackReason {
-    Insufficient,
-    NotWords,
-    TooLong,
+    SackShort,
+    SackNotWords,
+    SackLong,
 }
 
 pub enum Checked {
     Fine(usize),
     Bad(SackReason),
+}
+
+impl SackReason {
+    // The number of the refusal.
+    pub fn number(self) -> u32
+        ensures { λ r. ⌜ r ≡ sackNumber self ⌝ }
+    {
+        match self {
+            SackReason::SackShort => 5,
+            SackReason::SackNotWords => 6,
+            SackReason::SackLong => 8,
+        }
+    }
 }
 
 // May a mask of so many bytes be written, or be heard in an ack? No bytes mean no SACK. Else 5, 6, 8.
@@ -27,13 +40,13 @@ pub fn check(len: usize) -> Checked
         return Checked::Fine(len);
     }
     if len < 4 {
-        return Checked::Bad(SackReason::Insufficient);
+        return Checked::Bad(SackReason::SackShort);
     }
     if len % 4 != 0 {
-        return Checked::Bad(SackReason::NotWords);
+        return Checked::Bad(SackReason::SackNotWords);
     }
     if 252 < len {
-        return Checked::Bad(SackReason::TooLong);
+        return Checked::Bad(SackReason::SackLong);
     }
     Checked::Fine(len)
 }

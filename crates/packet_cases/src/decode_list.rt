@@ -1,6 +1,5 @@
 // decode.bin: a datagram, its answer number, and after 0 the packet's fields.
 ghost use Prim.Native.Nat.{_≤_};
-use lines::answer::of_reason;
 use list::behind;
 use list::behind_part;
 use list::four;
@@ -45,7 +44,7 @@ fn is_packet(packet: Packet, seen: &[u8]) -> bool {
 fn is_seen(datagram: &[u8], seen: &[u8]) -> bool {
     match Packet::decode(datagram) {
         Decoded::Accepted(packet) => tells(seen, 0, 1, 0) & is_packet(packet, seen),
-        Decoded::Undecoded(reason) => tells(seen, 0, 1, of_reason(reason)),
+        Decoded::Undecoded(reason) => tells(seen, 0, 1, reason.number() as u64),
     }
 }
 

@@ -1,7 +1,5 @@
 // Cases at the edges that the lists lack or do not single out.
 use crate::encode_list;
-use lines::answer::of_reason;
-use lines::answer::of_sack;
 use packet::decode::Decoded;
 use packet::decode::Packet;
 use packet::extension::Part;
@@ -18,7 +16,7 @@ use seq::SeqNum;
 fn decoded(datagram: &[u8]) -> u64 {
     match Packet::decode(datagram) {
         Decoded::Accepted(_) => 0,
-        Decoded::Undecoded(reason) => of_reason(reason),
+        Decoded::Undecoded(reason) => reason.number() as u64,
     }
 }
 
@@ -170,7 +168,7 @@ fn numbers(tally: Tally) -> Tally {
 fn length(tally: Tally, len: usize, expected: u64) -> Tally {
     let found = match check(len) {
         Checked::Fine(_) => 0,
-        Checked::Bad(reason) => of_sack(reason),
+        Checked::Bad(reason) => reason.number() as u64,
     };
     tally.counted(expected, found == expected)
 }

@@ -1,6 +1,5 @@
 // encode.bin: a packet's parts and the room for it, the answer number, and what is written. The room is
 // filled with a pattern first, so that every byte that must stay as it was can be told.
-use lines::answer::of_unwritten;
 use list::behind;
 use list::behind_part;
 use list::fill;
@@ -23,7 +22,7 @@ use std::num::wrapping_add_usize;
 fn known(read: TypeRead) -> PacketType {
     match read {
         TypeRead::Known(packet_type) => packet_type,
-        TypeRead::Unknown => PacketType::Reset,
+        TypeRead::UnknownType => PacketType::Reset,
     }
 }
 
@@ -71,7 +70,7 @@ fn answer_of(encoded: Encoded) -> Answer {
             written: size as u64,
         },
         Encoded::Refused(reason) => Answer {
-            number: of_unwritten(reason),
+            number: reason.number() as u64,
             written: 0,
         },
     }

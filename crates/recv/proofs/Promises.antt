@@ -8,6 +8,7 @@ use Rattle.recv.specs.declared.Count.{Count}
 use Rattle.recv.specs.declared.Taken.{Taken}
 use Rattle.recv.specs.declared.Written.{Written}
 use Rattle.recv.specs.declared.Writing.{Writing}
+use Rattle.recv.proofs.Refusal.number.Reads as number
 use Rattle.recv.proofs.ReceiveBuffer.new.Reads as new
 use Rattle.recv.proofs.ReceiveBuffer.write.Reads as write
 use Rattle.recv.proofs.ReceiveBuffer.read.Reads as read
@@ -26,6 +27,9 @@ use Rattle.recv.specs.declared.StepWrite.{StepWrite}
 use Rattle.recv.specs.declared.StepRead.{StepRead}
 use Rattle.recv.proofs.Counts.write_in.Reads as write-in
 use Rattle.recv.proofs.Counts.read_in.Reads as read-in
+
+number-promise : Promise number.Pre number.Post (λ κs r s. r)
+number-promise = by-value _ (λ κs a. tt) (λ κs a r s p. p)
 
 new-promise : Promise new.Pre new.Post (λ κs r s. r)
 new-promise = by-value _ (λ κs a. tt) (λ κs a r s p. p)

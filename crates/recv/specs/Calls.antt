@@ -13,7 +13,7 @@ use Rattle.recv.specs.Receiver.{Receiver, joined, lengthsOf, ruleOf, sto
 use Rattle.recv.specs.declared.Count.{Count}
 use Rattle.recv.specs.declared.Count.the-variants.{Is, Refused}
 use Rattle.recv.specs.declared.ReceiveBuffer.{ReceiveBuffer}
-use Rattle.recv.specs.declared.Refusal.the-variants.{RoomTooSmall, OtherLength, NotSound}
+use Rattle.recv.specs.declared.Refusal.the-variants.{NoRoom, OtherLength, NotSound}
 use Rattle.recv.specs.declared.Taken.{Taken}
 use Rattle.recv.specs.declared.Writing.{Writing}
 use Rattle.recv.specs.declared.Writing.the-variants.{Refused as write-refused}
@@ -107,7 +107,7 @@ ackedOf s room =
     cond (soundOf s)
     (cond (leb (length (sackOf (tableOf s))) room)
     (Is (length (sackOf (tableOf s))))
-    (Refused RoomTooSmall))
+    (Refused NoRoom))
     (Refused NotSound)
 
 abbrev pub ackedRoomOf : ReceiveBuffer → List ℕ → List ℕ

@@ -9,7 +9,7 @@ use Rattle.recv.specs.declared.Creation.the-variants.{Made, Refused as c
 use Rattle.recv.specs.declared.Number.{Number}
 use Rattle.recv.specs.declared.Number.the-variants.{Is as number-is, Refused as number-refused}
 use Rattle.recv.specs.declared.Refusal.{Refusal}
-use Rattle.recv.specs.declared.Refusal.the-variants.{RoomTooSmall, LengthOutOfRange, PastLimit, TooFarAhead, PayloadTooLong, OtherLength, NotSound}
+use Rattle.recv.specs.declared.Refusal.the-variants.{NoRoom, BadSetting, TooMany, TooFarAhead, PayloadTooLong, OtherLength, NotSound}
 use Rattle.recv.specs.declared.Truth.{Truth}
 use Rattle.recv.specs.declared.Truth.the-variants.{Is as truth-is, Refused as truth-refused}
 use Rattle.recv.specs.declared.Writing.{Writing}
@@ -17,9 +17,9 @@ use Rattle.recv.specs.declared.Writing.the-variants.{Stored, AlreadyTher
 
 -- why a call is refused
 abbrev pub numberOf : Refusal → ℕ
-numberOf RoomTooSmall = 9
-numberOf LengthOutOfRange = 10
-numberOf PastLimit = 15
+numberOf NoRoom = 9
+numberOf BadSetting = 10
+numberOf TooMany = 15
 numberOf TooFarAhead = 16
 numberOf PayloadTooLong = 17
 numberOf OtherLength = 18

@@ -7,7 +7,7 @@ use lib.Dec.{ltb}
 use lib.ListN.{length, take, drop}
 use Rattle.seq.specs.declared.SeqNum.{SeqNum}
 use Rattle.recv.specs.Table.{runOf, limit, ahead, thereOf, freeOf}
-use Rattle.recv.specs.declared.Refusal.the-variants.{PastLimit, TooFarAhead, PayloadTooLong}
+use Rattle.recv.specs.declared.Refusal.the-variants.{TooMany, TooFarAhead, PayloadTooLong}
 use Rattle.recv.specs.declared.Writing.{Writing}
 use Rattle.recv.specs.declared.Writing.the-variants.{Stored, AlreadyThere, Refused}
 
@@ -52,7 +52,7 @@ ruleOf size c ready table o n =
     cond (thereOf c table o)
     AlreadyThere
     (cond (ltb limit o)
-    (Refused PastLimit)
+    (Refused TooMany)
     (cond (ltb (c + ahead) o)
     (Refused TooFarAhead)
     (cond (ltb (freeOf size ready table) n)

@@ -14,7 +14,7 @@ use Rattle.recv.specs.declared.Creation.the-variants.{Made, Refused as c
 use Rattle.recv.specs.declared.Number.{Number}
 use Rattle.recv.specs.declared.Number.the-variants.{Is as number-is, Refused as number-refused}
 use Rattle.recv.specs.declared.ReceiveBuffer.{ReceiveBuffer}
-use Rattle.recv.specs.declared.Refusal.the-variants.{LengthOutOfRange, NotSound}
+use Rattle.recv.specs.declared.Refusal.the-variants.{BadSetting, NotSound}
 use Rattle.recv.specs.declared.Truth.{Truth}
 use Rattle.recv.specs.declared.Truth.the-variants.{Is as truth-is, Refused as truth-refused}
 
@@ -42,7 +42,7 @@ freshOf initial size = record { initial = initial; length = size; count = 0; rea
 
 -- with a refusal stands a state of length 0, which no call takes
 abbrev pub noReceiverOf : SeqNum → Created
-noReceiverOf initial = record { answer = creation-refused LengthOutOfRange; state = freshOf initial 0 }
+noReceiverOf initial = record { answer = creation-refused BadSetting; state = freshOf initial 0 }
 
 -- Document 01, "Receiving": buffer length 1 to 65,536, else 10.
 abbrev pub createdOf : SeqNum → ℕ → Created

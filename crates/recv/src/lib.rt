@@ -12,6 +12,7 @@ ghost use lib.ListN.{length, take};
 ghost use Rattle.recv.specs.Calls.{receiverOf, over, stateOf, roomOf, answerOf, afterWrite, writtenOf, writtenRoomOf, takenOf, takenRoomOf, takenOutOf, ackedOf, ackedRoomOf};
 ghost use Rattle.recv.specs.Lent.{Held, whole, stateIn, wholeWritten, wholeTaken};
 ghost use Rattle.recv.specs.Receiver.{readOf};
+ghost use Rattle.recv.specs.Numbers.{numberOf};
 ghost use Rattle.recv.specs.Laws.Steps.{Placeable, placedOf};
 ghost use Rattle.recv.specs.Laws.Reading.{Takes};
 ghost use Rattle.recv.specs.State.{soundOf, createdOf, noReceiverOf, countedOf, toldOf, numberedOf, ackOf, writtenBefore, emptyOf, tableOf};
@@ -33,11 +34,11 @@ pub struct ReceiveBuffer {
 // Why a call is refused.
 pub enum Refusal {
     // 9: the lent room is too small.
-    RoomTooSmall,
+    NoRoom,
     // 10: the buffer's length is not 1 to 65,536.
-    LengthOutOfRange,
+    BadSetting,
     // 15: the offset is above 60,000.
-    PastLimit,
+    TooMany,
     // 16: the offset is more than 256 ahead.
     TooFarAhead,
     // 17: the payload is longer than the free room.
@@ -46,6 +47,23 @@ pub enum Refusal {
     OtherLength,
     // 19: the state is not sound.
     NotSound,
+}
+
+impl Refusal {
+    // The number of the refusal.
+    pub fn number(self) -> u32
+        ensures { λ r. ⌜ r ≡ numberOf self ⌝ }
+    {
+        match self {
+            Refusal::NoRoom => 9,
+            Refusal::BadSetting => 10,
+            Refusal::TooMany => 15,
+            Refusal::TooFarAhead => 16,
+            Refusal::PayloadTooLong => 17,
+            Refusal::OtherLength => 18,
+            Refusal::NotSound => 19,
+        }
+    }
 }
 
 // What a call that makes a receiver answers.
@@ -202,7 +220,7 @@ impl Counts {
             return Writing::AlreadyThere;
         }
         if offset > 60000 {
-            return Writing::Refused(Refusal::PastLimit);
+            return Writing::Refused(Refusal::TooMany);
         }
         if offset > self.count + 256 {
             return Writing::Refused(Refusal::TooFarAhead);
@@ -562,7 +580,7 @@ impl ReceiveBuffer {
         let span = self.span as usize;
         let n = sack::length_for(span);
         if n > room.len() {
-            return Count::Refused(Refusal::RoomTooSmall);
+            return Count::Refused(Refusal::NoRoom);
         }
         let initial = self.initial;
         let ack = initial.at(self.count);
@@ -643,7 +661,7 @@ fn refused_new(initial: SeqNum) -> Created
         waiting: [0u32; 256],
     };
     Created {
-        answer: Creation::Refused(Refusal::LengthOutOfRange),
+        answer: Creation::Refused(Refusal::BadSetting),
         state,
     }
 }

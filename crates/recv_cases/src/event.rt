@@ -13,7 +13,6 @@ use list::two;
 use recv::Count;
 use recv::Number;
 use recv::ReceiveBuffer;
-use recv::Refusal;
 use recv::Truth;
 use recv::Writing;
 use report::text::front;
@@ -23,18 +22,6 @@ use seq::SeqNum;
 pub struct Step {
     pub state: ReceiveBuffer,
     pub is_same: bool,
-}
-
-pub(crate) fn number_of_refusal(refusal: Refusal) -> u64 {
-    match refusal {
-        Refusal::RoomTooSmall => 9,
-        Refusal::LengthOutOfRange => 10,
-        Refusal::PastLimit => 15,
-        Refusal::TooFarAhead => 16,
-        Refusal::PayloadTooLong => 17,
-        Refusal::OtherLength => 18,
-        Refusal::NotSound => 19,
-    }
 }
 
 // An answer's number and its value.
@@ -54,7 +41,7 @@ fn of_writing(writing: Writing) -> Answer {
             value: 1,
         },
         Writing::Refused(refusal) => Answer {
-            number: number_of_refusal(refusal),
+            number: refusal.number() as u64,
             value: 0,
         },
     }
@@ -67,7 +54,7 @@ fn of_count(count: Count) -> Answer {
             value: n as u64,
         },
         Count::Refused(refusal) => Answer {
-            number: number_of_refusal(refusal),
+            number: refusal.number() as u64,
             value: 0,
         },
     }

@@ -5,7 +5,6 @@ use crate::event::Step;
 use crate::event::answer_of;
 use crate::event::compare;
 use crate::event::kind_of;
-use crate::event::number_of_refusal;
 use crate::event::size_of;
 use list::behind;
 use list::four;
@@ -96,7 +95,7 @@ fn over(
 fn number_of(creation: Creation) -> u64 {
     match creation {
         Creation::Made => 0,
-        Creation::Refused(refusal) => number_of_refusal(refusal),
+        Creation::Refused(refusal) => refusal.number() as u64,
     }
 }
 

@@ -3,7 +3,6 @@ ghost use mathlib.Core.Path.{_≡_};
 ghost use Rattle.packet.specs.Answers.{decoded, encoded};
 ghost use Rattle.ribsaddle.specs.Answer.{numberOf, valueOr};
 ghost use Rattle.ribsaddle.specs.Codec.{fieldsOf, partsOf, headerFrom, readAs, readingOf, writingOf, writingRoomOf, writingSizeOf};
-use crate::number;
 use packet::decode::Decoded;
 use packet::decode::Packet;
 use packet::encode::Encoded;
@@ -92,7 +91,7 @@ fn shown(old: PacketFields, outcome: Decoded) -> Reading
             packet: parts_of(packet),
         },
         Decoded::Undecoded(reason) => Reading {
-            answer: number::of_reading(reason),
+            answer: reason.number(),
             packet: old,
         },
     }
@@ -113,7 +112,7 @@ fn sized(outcome: Encoded, size: &mut u64) -> u32
             *size = n as u64;
             0
         }
-        Encoded::Refused(reason) => number::of_writing(reason),
+        Encoded::Refused(reason) => reason.number(),
     }
 }
 
@@ -129,7 +128,7 @@ pub(crate) fn write(
         × (now (size .exit) ≡ writingSizeOf header (now (sack .entry)) (now (payload .entry)) (now (room .entry)) (now (size .entry))) ⌝ }
 {
     match PacketType::of_number(header.packet_type) {
-        TypeRead::Unknown => 2,
+        TypeRead::UnknownType => 2,
         TypeRead::Known(packet_type) => sized(
             Packet::encode(header_from(packet_type, header), sack, payload, room),
             size,

@@ -44,7 +44,7 @@ fn created(old: ReceiveBuffer, new: Created) -> Receiving
     match creation {
         Creation::Made => Receiving { answer: 0, state },
         Creation::Refused(reason) => Receiving {
-            answer: number::of_receiver(reason),
+            answer: reason.number(),
             state: old,
         },
     }

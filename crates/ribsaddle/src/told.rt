@@ -4,7 +4,6 @@ ghost use Rattle.outgoing.specs.Answers.{numberTold, seqTold, rangeTold, truthT
 ghost use Rattle.ribsaddle.specs.Answer.{numberOf, partOr, valueOr, bitOf};
 ghost use Rattle.ribsaddle.specs.Tracker.{seqOf, startOf, endOf, lostNumberOf, lostTypeOf, lostTagOf};
 ghost use Rattle.ribsaddle.specs.Receiver.{countAnswer, truthAnswer, numberAnswer};
-use crate::number;
 use outgoing::answer::LostTold;
 use outgoing::answer::NumberTold;
 use outgoing::answer::RangeTold;
@@ -34,7 +33,7 @@ pub(crate) fn tell_number(told: NumberTold, value: &mut u64) -> u32
             *value = n;
             0
         }
-        NumberTold::Refused(reason) => number::of_tracker(reason),
+        NumberTold::Refused(reason) => reason.number(),
     }
 }
 
@@ -46,7 +45,7 @@ pub(crate) fn tell_seq(told: SeqTold, value: &mut u64) -> u32
             *value = wide(n.0);
             0
         }
-        SeqTold::Refused(reason) => number::of_tracker(reason),
+        SeqTold::Refused(reason) => reason.number(),
     }
 }
 
@@ -58,7 +57,7 @@ pub(crate) fn tell_truth(told: TruthTold, value: &mut u64) -> u32
             *value = bit(truth);
             0
         }
-        TruthTold::Refused(reason) => number::of_tracker(reason),
+        TruthTold::Refused(reason) => reason.number(),
     }
 }
 
@@ -72,7 +71,7 @@ pub(crate) fn tell_range(told: RangeTold, start: &mut u64, end: &mut u64) -> u32
             *end = wide(range.end.0);
             0
         }
-        RangeTold::Refused(reason) => number::of_tracker(reason),
+        RangeTold::Refused(reason) => reason.number(),
     }
 }
 
@@ -94,7 +93,7 @@ pub(crate) fn tell_lost(
             *tag = lost.tag as u64;
             0
         }
-        LostTold::Refused(reason) => number::of_tracker(reason),
+        LostTold::Refused(reason) => reason.number(),
     }
 }
 
@@ -106,7 +105,7 @@ pub(crate) fn tell_count(told: Count, value: &mut u64) -> u32
             *value = n as u64;
             0
         }
-        Count::Refused(reason) => number::of_receiver(reason),
+        Count::Refused(reason) => reason.number(),
     }
 }
 
@@ -118,7 +117,7 @@ pub(crate) fn tell_whether(told: Truth, value: &mut u64) -> u32
             *value = bit(truth);
             0
         }
-        Truth::Refused(reason) => number::of_receiver(reason),
+        Truth::Refused(reason) => reason.number(),
     }
 }
 
@@ -130,6 +129,6 @@ pub(crate) fn tell_which(told: Number, value: &mut u64) -> u32
             *value = wide(n.0);
             0
         }
-        Number::Refused(reason) => number::of_receiver(reason),
+        Number::Refused(reason) => reason.number(),
     }
 }

@@ -65,7 +65,7 @@ fn created(old: Tracker, stepping: Stepped) -> Starting
     match outcome {
         Outcome::Done => Starting { answer: 0, state },
         Outcome::Refused(reason) => Starting {
-            answer: number::of_tracker(reason),
+            answer: reason.number(),
             state: old,
         },
     }
@@ -130,7 +130,7 @@ pub(crate) fn transmit(
             len,
             clock,
         )),
-        TypeRead::Unknown => {
+        TypeRead::UnknownType => {
             if head.sound(samples, times, sizes, marks) {
                 return Heading { answer: 2, head };
             }

@@ -1,7 +1,6 @@
 // One event of a session: what is done to the tracker, and what it must then show.
 use crate::answer::number;
 use crate::answer::of_outcome;
-use crate::answer::of_reason;
 use crate::answer::seq;
 use feed::Feed;
 use feed::Held;
@@ -61,7 +60,7 @@ fn take_event(feed: Feed, window: &mut [u8], sack: &mut [u8]) -> Asked {
 fn type_of(kind: u64) -> PacketType {
     match PacketType::of_number((kind % 256) as u8) {
         TypeRead::Known(packet_type) => packet_type,
-        TypeRead::Unknown => PacketType::Reset,
+        TypeRead::UnknownType => PacketType::Reset,
     }
 }
 
@@ -145,7 +144,7 @@ fn held_lost(state: SentPackets, feed: Feed, window: &mut [u8], count: u64) -> H
 fn is_end(told: LostTold) -> bool {
     match told {
         LostTold::Lost(_) => false,
-        LostTold::Refused(reason) => of_reason(reason) == 12,
+        LostTold::Refused(reason) => reason.number() == 12,
     }
 }
 

@@ -11,6 +11,7 @@ use Rattle.session.specs.Laws.OneToOne.{wrote-one, started-one, stepped-
 use Rattle.session.proofs.line.Line.put.Reads as put-line
 use Rattle.session.proofs.line.Bad.number.Reads as bad-number
 use Rattle.session.proofs.line.Bad.put.Reads as put-bad
+use Rattle.session.proofs.replay.StepReason.number.Reads as step-number
 use Rattle.session.proofs.replay.Replay.start.Reads as start
 use Rattle.session.proofs.replay.Replay.step.Reads as step
 use Rattle.session.proofs.replay.Replay.fill.Reads as fill
@@ -24,6 +25,9 @@ bad-number-promise = by-value _ (λ κs a. tt) (λ κs a r s p. p)
 
 put-bad-promise : Promise {W = Written × List ℕ} put-bad.Pre put-bad.Post (λ κs r s. (r, now (s .1 .0)))
 put-bad-promise = by-code (λ x. (written (x .0), x .1)) wrote-one _ (λ κs a. tt) (λ κs a r s p. p)
+
+step-number-promise : Promise step-number.Pre step-number.Post (λ κs r s. r)
+step-number-promise = by-value _ (λ κs a. tt) (λ κs a r s p. p)
 
 start-promise : Promise start.Pre start.Post (λ κs r s. r)
 start-promise = by-code started started-one _ (λ κs a. tt) (λ κs a r s p. p)

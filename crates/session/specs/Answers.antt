@@ -8,7 +8,9 @@ use lib.ListN.{length}
 use Rattle.common.specs.Answer.{Answer, done, refused}
 use Rattle.common.specs.Laws.Put.{put}
 use Rattle.session.specs.declared.line.Bad.{Bad}
-use Rattle.session.specs.declared.line.Bad.the-variants.{NoSession, BadSetting}
+use Rattle.session.specs.declared.line.Bad.the-variants.{BadSession, BadSetting}
+use Rattle.session.specs.declared.replay.StepReason.{StepReason}
+use Rattle.session.specs.declared.replay.StepReason.the-variants.{BadSession as StepBad, NotSound}
 use Rattle.session.specs.declared.line.Written.{Written}
 use Rattle.session.specs.Lines.{decimal, space}
 use Rattle.session.specs.declared.line.Written.the-variants.{Behind, NoRoom}
@@ -34,5 +36,11 @@ wroteOf room at text = cond (leb (at + longest) (length room)) (done (at + lengt
 -- ---- a refused file
 
 abbrev pub badNumber : Bad → ℕ
-badNumber NoSession = 20
+badNumber BadSession = 20
 badNumber BadSetting = 10
+
+-- ---- a refused step
+
+abbrev pub stepNumber : StepReason → ℕ
+stepNumber StepBad = 20
+stepNumber NotSound = 19

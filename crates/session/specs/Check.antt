@@ -5,11 +5,11 @@ use lib.ListN.{length}
 use Rattle.common.specs.Answer.{Answer, done, refused}
 use Rattle.session.specs.declared.check.Layout.{Layout}
 use Rattle.session.specs.declared.check.Checked.{Checked}
-use Rattle.session.specs.declared.check.Checked.the-variants.{Bad, Good}
+use Rattle.session.specs.declared.check.Checked.the-variants.{BadSession, Good}
 use Rattle.session.specs.Format.{settingCount, settingSize, eventSize, Session, sessionOf, _into_}
 
 abbrev pub checked : Checked → Answer Layout
-checked Bad = refused 20
+checked BadSession = refused 20
 checked (Good l) = done l
 
 -- The place of an event: behind the settings' section and the events' count.

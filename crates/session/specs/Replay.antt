@@ -20,18 +20,17 @@ use Rattle.session.specs.declared.replay.Replay.{Replay}
 use Rattle.session.specs.declared.replay.Start.{Start}
 use Rattle.session.specs.declared.replay.Start.the-variants.{Ready, Refused as StartRefused}
 use Rattle.session.specs.declared.replay.Started.{Started}
-use Rattle.session.specs.declared.replay.StepReason.the-variants.{NotThere, NotSound}
 use Rattle.session.specs.declared.replay.Told.{Told}
 use Rattle.session.specs.declared.replay.Told.the-variants.{Event as EventTold, Ended, Refused as StepRefused}
 use Rattle.session.specs.declared.replay.Stepped.{Stepped}
 use Rattle.session.specs.declared.replay.Filled.{Filled}
 use Rattle.session.specs.declared.step.Found.{Found}
-use Rattle.session.specs.declared.step.Found.the-variants.{Known, Missing}
+use Rattle.session.specs.declared.step.Found.the-variants.{Known, BadSession}
 use Rattle.session.specs.Format.{eventSize, eventOf, isTransmit, isAck, isKnown, sackSize, Session, sessionOf}
 use Rattle.session.specs.declared.check.Layout.{Layout}
 use Rattle.session.specs.Check.{eventPlace, layoutIn}
 use Rattle.session.specs.Lines.{seq, numberOf, lineText, badText}
-use Rattle.session.specs.Answers.{badNumber, longest}
+use Rattle.session.specs.Answers.{badNumber, longest, stepNumber}
 
 -- ---- the start
 
@@ -81,15 +80,14 @@ startAnswer file = startOf file (sessionOf file)
 abbrev pub toldOf : Told → Answer (List Line)
 toldOf (EventTold l) = done (l ∷ [])
 toldOf Ended = done []
-toldOf (StepRefused NotThere) = refused 20
-toldOf (StepRefused NotSound) = refused 19
+toldOf (StepRefused r) = refused (stepNumber r)
 
 abbrev pub stepped : Stepped → Answer (List Line) × Replay
 stepped s = (toldOf (s .told), s .replay)
 
 abbrev pub found : Found → Answer Event
 found (Known e) = done e
-found Missing = refused 20
+found BadSession = refused 20
 
 -- The event of an index, if it is in the file and known.
 unfoldable pub eventAt : List ℕ → ℕ → Answer Event

@@ -16,9 +16,9 @@ pub(crate) struct Layout {
     pub sack_at: usize,
 }
 
-// Bad is 20.
+// Where they are, or a file that is no session (20).
 pub(crate) enum Checked {
-    Bad,
+    BadSession,
     Good(Layout),
 }
 
@@ -60,29 +60,29 @@ pub(crate) fn check(file: &[u8]) -> Checked
     ensures { λ r. ⌜ checked r ≡ checkOf (now (file .entry)) ⌝ }
 {
     if file.len() < EVENTS {
-        return Checked::Bad;
+        return Checked::BadSession;
     }
     if read32(file, 0) != 8 {
-        return Checked::Bad;
+        return Checked::BadSession;
     }
     if 65535 < read64(file, 4) {
-        return Checked::Bad;
+        return Checked::BadSession;
     }
     let count = read32(file, 68);
     let end = EVENTS + Event::SIZE * (count as usize);
     if file.len() < end + 4 {
-        return Checked::Bad;
+        return Checked::BadSession;
     }
     let sack = read32(file, end);
     if file.len() - (end + 4) != sack as usize {
-        return Checked::Bad;
+        return Checked::BadSession;
     }
     let walk = walked(file, count as usize);
     if !walk.fine {
-        return Checked::Bad;
+        return Checked::BadSession;
     }
     if walk.total != sack as u64 {
-        return Checked::Bad;
+        return Checked::BadSession;
     }
     Checked::Good(Layout {
         count,

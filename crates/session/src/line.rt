@@ -1,4 +1,5 @@
 // What is printed: the line of an event, or the one line of a refused file.
+use crate::number::wide64;
 ghost use Prim.Native.Nat.{_+_, _≤_};
 ghost use mathlib.Core.Path.{_≡_};
 ghost use lib.ListN.{length};
@@ -20,7 +21,7 @@ pub struct Line {
 
 // Why a file is refused: it is no session (20), or a setting is out of range (10).
 pub enum Bad {
-    NoSession,
+    BadSession,
     BadSetting,
 }
 
@@ -109,11 +110,11 @@ impl Line {
 
 impl Bad {
     // The number of the refusal.
-    pub fn number(self) -> u64
+    pub fn number(self) -> u32
         ensures { λ r. ⌜ r ≡ badNumber self ⌝ }
     {
         match self {
-            Bad::NoSession => 20,
+            Bad::BadSession => 20,
             Bad::BadSetting => 10,
         }
     }
@@ -127,7 +128,7 @@ impl Bad {
         room[at + 1] = b'a';
         room[at + 2] = b'd';
         room[at + 3] = b' ';
-        put_field(room, at + 4, self.number(), b'\n')
+        put_field(room, at + 4, wide64(self.number()), b'\n')
     }
 
     // Writes the one line of a refused file. Refused with 9 as a line is.

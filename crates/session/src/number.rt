@@ -16,7 +16,7 @@ fn wide32(x: u16) -> u32
     x as u32
 }
 
-fn wide64(x: u32) -> u64
+pub(crate) fn wide64(x: u32) -> u64
     ensures { λ r. ⌜ r ≡ x ⌝ }
 {
     x as u64

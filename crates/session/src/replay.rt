@@ -2,6 +2,8 @@
 use crate::line::Bad;
 use crate::line::Line;
 use sent::state::SentPackets;
+ghost use mathlib.Core.Path.{_≡_};
+ghost use Rattle.session.specs.Answers.{stepNumber};
 
 // Where a replay stands: the index of the next event and how many there are, the place of the SACK
 // bytes that are not used up yet, and the tracker. A plain value that may be forged.
@@ -26,8 +28,20 @@ pub struct Started {
 // Why a step is refused, which no replay of a file from its start meets: the event or its SACK bytes
 // are not in the file, or the event is not known (20), or the tracker is not sound (19).
 pub enum StepReason {
-    NotThere,
+    BadSession,
     NotSound,
+}
+
+impl StepReason {
+    // The number of the refusal.
+    pub fn number(self) -> u32
+        ensures { λ r. ⌜ r ≡ stepNumber self ⌝ }
+    {
+        match self {
+            StepReason::BadSession => 20,
+            StepReason::NotSound => 19,
+        }
+    }
 }
 
 pub enum Told {

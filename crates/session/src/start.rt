@@ -36,7 +36,7 @@ fn verdict(session: bool, in_range: bool) -> Start
         return Start::Refused(Bad::BadSetting);
     }
     if !session {
-        return Start::Refused(Bad::NoSession);
+        return Start::Refused(Bad::BadSession);
     }
     Start::Ready
 }
@@ -97,7 +97,7 @@ impl Replay {
         let in_range = settings_in_range(file);
         let checked = check(file);
         match checked {
-            Checked::Bad => Started {
+            Checked::BadSession => Started {
                 answer: verdict(false, in_range),
                 replay: none(),
             },

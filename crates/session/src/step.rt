@@ -26,7 +26,7 @@ ghost use Rattle.session.specs.Replay.{found, eventAt, stepped, eventSta
 // An event of the file, if it is there and known.
 enum Found {
     Known(Event),
-    Missing,
+    BadSession,
 }
 
 // The event of an index.
@@ -35,11 +35,11 @@ fn find_event(file: &[u8], index: u32) -> Found
 {
     let at = EVENTS + Event::SIZE * (index as usize);
     if file.len() < at + Event::SIZE {
-        return Found::Missing;
+        return Found::BadSession;
     }
     let event = read_event(file, at);
     if !event.is_known() {
-        return Found::Missing;
+        return Found::BadSession;
     }
     Found::Known(event)
 }
@@ -123,7 +123,7 @@ fn found_step(replay: Replay, event: Event, file: &[u8]) -> Stepped
     let len = event.sack_size() as usize;
     if !holds(file.len(), at, len) {
         return Stepped {
-            told: Told::Refused(StepReason::NotThere),
+            told: Told::Refused(StepReason::BadSession),
             replay,
         };
     }
@@ -145,8 +145,8 @@ impl Replay {
         }
         let found = find_event(file, index);
         match found {
-            Found::Missing => Stepped {
-                told: Told::Refused(StepReason::NotThere),
+            Found::BadSession => Stepped {
+                told: Told::Refused(StepReason::BadSession),
                 replay: self,
             },
             Found::Known(event) => found_step(self, event, file),

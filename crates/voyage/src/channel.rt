@@ -6,7 +6,6 @@ use crate::book::LENGTHS;
 use crate::book::LOST;
 use crate::book::add;
 use crate::book::refuse;
-use lines::answer::of_unwritten;
 use packet::decode::Packet;
 use packet::encode::Encoded;
 use packet::extension::Part;
@@ -75,7 +74,7 @@ pub(crate) fn put(
     }
     match encoded(memory, place, header, sack, payload) {
         Encoded::Written(size) => note(book, place, (size % 65536) as u64),
-        Encoded::Refused(why) => refuse(book, of_unwritten(why)),
+        Encoded::Refused(why) => refuse(book, why.number() as u64),
     }
 }
 

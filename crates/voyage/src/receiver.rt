@@ -32,22 +32,9 @@ use packet::kind::PacketType;
 use recv::Count;
 use recv::Number;
 use recv::ReceiveBuffer;
-use recv::Refusal;
 use recv::Writing;
 use report::text::front;
 use seq::SeqNum;
-
-fn of_refusal(refusal: Refusal) -> u64 {
-    match refusal {
-        Refusal::RoomTooSmall => 9,
-        Refusal::LengthOutOfRange => 10,
-        Refusal::PastLimit => 15,
-        Refusal::TooFarAhead => 16,
-        Refusal::PayloadTooLong => 17,
-        Refusal::OtherLength => 18,
-        Refusal::NotSound => 19,
-    }
-}
 
 // The number that an answer has, or what no number is.
 fn number_of(answer: Number) -> u64 {
@@ -71,7 +58,7 @@ fn tell_written(book: &mut Book, answer: Writing, number: u64, before: u64, afte
     match answer {
         Writing::Stored => tell_stored(book, number, before, after),
         Writing::AlreadyThere => tell(book, WROTE_AGAIN, number, 0),
-        Writing::Refused(why) => tell_refused(book, UNWRITTEN, number, of_refusal(why)),
+        Writing::Refused(why) => tell_refused(book, UNWRITTEN, number, why.number() as u64),
     }
 }
 
@@ -147,7 +134,7 @@ fn tell_read(book: &mut Book, answer: Count, out: &[u8]) {
             compare_all(book, front(out, n));
             tell(book, READ, n as u64, 0)
         }
-        Count::Refused(why) => tell_answer(book, UNREAD, of_refusal(why)),
+        Count::Refused(why) => tell_answer(book, UNREAD, why.number() as u64),
     }
 }
 
@@ -200,7 +187,7 @@ fn ack_with(receiver: ReceiveBuffer, book: &mut Book, sack: &[u8], memory: &mut 
             put(book, memory, header, sack, b"");
             tell(book, BUILT, number.0 as u64, sack.len() as u64)
         }
-        Number::Refused(why) => tell_answer(book, UNBUILT, of_refusal(why)),
+        Number::Refused(why) => tell_answer(book, UNBUILT, why.number() as u64),
     }
 }
 
@@ -208,7 +195,7 @@ fn ack_with(receiver: ReceiveBuffer, book: &mut Book, sack: &[u8], memory: &mut 
 fn build_in(receiver: ReceiveBuffer, book: &mut Book, room: &mut [u8], memory: &mut Memory) {
     match receiver.selective_ack(room) {
         Count::Is(n) => ack_with(receiver, book, front(room, n), memory),
-        Count::Refused(why) => tell_answer(book, UNBUILT, of_refusal(why)),
+        Count::Refused(why) => tell_answer(book, UNBUILT, why.number() as u64),
     }
 }
 

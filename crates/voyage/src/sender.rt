@@ -36,7 +36,6 @@ use report::text::front;
 use sent_lent::head::Head;
 use sent_lent::head::Stepped;
 use sent_replay::answer::of_outcome;
-use sent_replay::answer::of_reason;
 use seq::SeqNum;
 
 // The header of a packet with a payload of this size.
@@ -174,7 +173,7 @@ fn next_due(
     }
     match sender.next_seq_num(samples, times, sizes, marks) {
         SeqTold::Seq(number) => number.plus((far % 65536) as u16).0 as u64,
-        SeqTold::Refused(reason) => NOT_DUE + of_reason(reason) % 32,
+        SeqTold::Refused(reason) => NOT_DUE + reason.number() as u64 % 32,
     }
 }
 
@@ -208,7 +207,7 @@ fn lost_due(
     let at = (position % count % 65536) as u32;
     match sender.lost_at(samples, times, sizes, marks, at) {
         LostTold::Lost(found) => found.seq_num.0 as u64,
-        LostTold::Refused(reason) => NOT_DUE + of_reason(reason) % 32,
+        LostTold::Refused(reason) => NOT_DUE + reason.number() as u64 % 32,
     }
 }
 

@@ -22,7 +22,6 @@ use crate::words::LOST_ACK;
 use crate::words::LOST_PACKET;
 use crate::words::NOTHING;
 use crate::words::UNDECODED;
-use lines::answer::of_reason;
 use packet::decode::Decoded;
 use packet::decode::Packet;
 use packet::extension::Part;
@@ -109,7 +108,7 @@ fn pass(book: &mut Book, way: Way, start: u64, memory: &Memory) -> Step {
     match Packet::decode(part.bytes(memory)) {
         Decoded::Accepted(packet) => go(book, way, packet, part),
         Decoded::Undecoded(why) => {
-            tell_answer(book, UNDECODED, of_reason(why));
+            tell_answer(book, UNDECODED, why.number() as u64);
             Step::Over
         }
     }

@@ -5,15 +5,14 @@ use Prim.Native.Nat.{ℕ, _-_, _≤_}
 use native.Mathlib.Omega.{arith}
 use lib.Dec.{leb}
 use borrow.Author.Tests.{leb-true}
+use Rattle.common.specs.Answer.{Answer}
 use Rattle.congestion.specs.declared.settings.Settings.{Settings}
 use Rattle.congestion.specs.declared.numbers.Numbers.{Numbers}
 use Rattle.controller.specs.declared.delays.Delays.{Delays}
 use Rattle.controller.specs.declared.state.Controller.{Controller}
-use Rattle.controller.specs.declared.state.Outcome.{Outcome}
 use Rattle.controller.specs.declared.state.Transmit.{Transmit}
 use Rattle.controller.specs.declared.state.Transmit.the-variants.{Initial, Retransmission}
 use Rattle.controller.specs.declared.state.Packet.{Packet}
-use Rattle.controller.specs.declared.answer.Reason.the-variants.{SettingOutOfRange, TimeOutOfRange, NotSent, WindowFull, NotSound}
 use Rattle.congestion.specs.Settings.{latest, inRangeOf}
 use Rattle.congestion.specs.Numbers.{soundOf, minimumOf, freeOf, startOf, noNumbers, acceptedOf, sentOf, creditedOf, lostOf, timedOutOf}
 use Rattle.controller.specs.Delays.{noDelays, listOf, takenOf, baseOf, delaysSoundOf}
@@ -32,8 +31,8 @@ unfolding controllerSoundOf
 delays-sound c e = both (soundOf (c .numbers)) (delaysSoundOf (c .numbers .last) (c .delays)) e .1
 
 -- A forged controller gets 19 from every call that hands a state back, and comes back as it was.
-pub forged-refused : (c : Controller) → controllerSoundOf c ≡ false → (o : Outcome) → ifSound c o ≡ refusedOf c NotSound
-forged-refused c e o = ap (λ (t : Bool). cond t o (refusedOf c NotSound)) e
+pub forged-refused : (c : Controller) → controllerSoundOf c ≡ false → (o : Answer (Unit {0}) × Controller) → ifSound c o ≡ refusedOf c 19
+forged-refused c e o = ap (λ (t : Bool). cond t o (refusedOf c 19)) e
 
 -- ---- what every call keeps: the test passes, and the maximum is at most 2^32 - 1
 
@@ -41,14 +40,14 @@ pub record Held (c : Controller) : Type 0 where
   pub sound : controllerSoundOf c ≡ true
   pub to-top : c .numbers .maximum ≤ top
 
-abbrev Kept : Outcome → Type 0
-Kept o = Held (o .controller)
+abbrev Kept : Answer (Unit {0}) × Controller → Type 0
+Kept o = Held (o .1)
 
 done-kept : (n : Numbers) (d : Delays) → Sound n → n .maximum ≤ top → delaysSoundOf (n .last) d ≡ true → Kept (doneOf n d)
 unfolding controllerSoundOf
 done-kept n d s m e = record { sound = and-of (soundOf n) (delaysSoundOf (n .last) d) (sound-from n s) e; to-top = m }
 
-checked : (t : Bool) (o p : Outcome) → (t ≡ true → Kept o) → Kept p → Kept (cond t o p)
+checked : (t : Bool) (o p : Answer (Unit {0}) × Controller) → (t ≡ true → Kept o) → Kept p → Kept (cond t o p)
 checked true o p f g = f refl
 checked false o p f g = g
 
@@ -59,15 +58,15 @@ module _ (c : Controller) (e : Held c) where
   delays-in : delaysSoundOf (c .numbers .last) (c .delays) ≡ true
   delays-in = delays-sound c (e .sound)
 
-  if-sound : (o : Outcome) → Kept o → Kept (ifSound c o)
-  if-sound o k = checked (controllerSoundOf c) o (refusedOf c NotSound) (λ _. k) e
+  if-sound : (o : Answer (Unit {0}) × Controller) → Kept o → Kept (ifSound c o)
+  if-sound o k = checked (controllerSoundOf c) o (refusedOf c 19) (λ _. k) e
 
   send-keeps : (t : Transmit) (clock : ℕ) → inTimeOf c clock ≡ true → Kept (sendOf c t clock)
   unfolding sendOf
   send-keeps (Initial len) clock i =
       let b = between-of (c .numbers .last) latest clock i in
       let n = sentOf (c .numbers) len in
-      checked (leb len (freeOf (c .numbers))) (doneOf (acceptedOf n clock) (c .delays)) (refusedOf c WindowFull)
+      checked (leb len (freeOf (c .numbers))) (doneOf (acceptedOf n clock) (c .delays)) (refusedOf c 13)
       (λ _. done-kept (acceptedOf n clock) (c .delays) (accepted-sound n clock (sent-sound (c .numbers) len numbers-in) (b .1)) (e .to-top)
       (later-sound (c .numbers .last) (c .delays) delays-in clock (b .0)))
       e
@@ -78,8 +77,8 @@ module _ (c : Controller) (e : Held c) where
 
   pub transmit-keeps : (t : Transmit) (clock : ℕ) → Kept (onTransmitOf c t clock)
   transmit-keeps t clock =
-      if-sound (cond (inTimeOf c clock) (sendOf c t clock) (refusedOf c TimeOutOfRange))
-      (checked (inTimeOf c clock) (sendOf c t clock) (refusedOf c TimeOutOfRange) (send-keeps t clock) e)
+      if-sound (cond (inTimeOf c clock) (sendOf c t clock) (refusedOf c 11))
+      (checked (inTimeOf c clock) (sendOf c t clock) (refusedOf c 11) (send-keeps t clock) e)
 
   credit-keeps : (p : Packet) (delay clock : ℕ) → inTimeOf c clock ≡ true → delay ≤ latest → Kept (creditOf c p delay clock)
   unfolding creditOf
@@ -95,8 +94,8 @@ module _ (c : Controller) (e : Held c) where
   pub ack-keeps : (p : Packet) (delay clock : ℕ) → Kept (onAckOf c p delay clock)
   ack-keeps p delay clock =
       if-sound _
-      (checked (inTimeOf c clock && leb delay latest && leb (p .at) clock) _ (refusedOf c TimeOutOfRange)
-      (λ i. checked (leb (p .length) (c .numbers .«in_flight»)) (creditOf c p delay clock) (refusedOf c NotSent)
+      (checked (inTimeOf c clock && leb delay latest && leb (p .at) clock) _ (refusedOf c 11)
+      (λ i. checked (leb (p .length) (c .numbers .«in_flight»)) (creditOf c p delay clock) (refusedOf c 12)
       (λ _.
       let q = both (inTimeOf c clock && leb delay latest) (leb (p .at) clock) i in
       let r = both (inTimeOf c clock) (leb delay latest) (q .0) in
@@ -117,14 +116,14 @@ module _ (c : Controller) (e : Held c) where
 -- ---- every controller that a fresh one reaches
 
 pub data Reached : Controller → Type 0 where
-  fresh : (s : Settings) → inRangeOf s ≡ true → Reached (controllerOf s .controller)
-  transmit : {c : Controller} (t : Transmit) (clock : ℕ) → Reached c → Reached (onTransmitOf c t clock .controller)
-  ack : {c : Controller} (p : Packet) (delay clock : ℕ) → Reached c → Reached (onAckOf c p delay clock .controller)
-  loss : {c : Controller} → Reached c → Reached (onLossOf c .controller)
-  timeout : {c : Controller} → Reached c → Reached (onTimeoutOf c .controller)
+  fresh : (s : Settings) → inRangeOf s ≡ true → Reached (controllerOf s .1)
+  transmit : {c : Controller} (t : Transmit) (clock : ℕ) → Reached c → Reached (onTransmitOf c t clock .1)
+  ack : {c : Controller} (p : Packet) (delay clock : ℕ) → Reached c → Reached (onAckOf c p delay clock .1)
+  loss : {c : Controller} → Reached c → Reached (onLossOf c .1)
+  timeout : {c : Controller} → Reached c → Reached (onTimeoutOf c .1)
 
 start-kept : (s : Settings) (t : Bool) → inRangeOf s ≡ true → t ≡ true
-    → Kept (cond t (doneOf (cond t (startOf s) noNumbers) noDelays) (refusedOf (record { numbers = cond t (startOf s) noNumbers; delays = noDelays }) SettingOutOfRange))
+    → Kept (cond t (doneOf (cond t (startOf s) noNumbers) noDelays) (refusedOf (record { numbers = cond t (startOf s) noNumbers; delays = noDelays }) 10))
 start-kept s true i e =
     let r = settings-facts s i in
     done-kept (startOf s) noDelays (start-sound s r) (omega (arith, r .largest-packet-in .1)) refl

@@ -16,7 +16,7 @@ use Rattle.seq.specs.declared.SeqNum.{SeqNum}
 use Rattle.recv.specs.declared.ReceiveBuffer.{ReceiveBuffer}
 use Rattle.recv.specs.declared.Count.the-variants.{Is as is-count, Refused as count-refused}
 use Rattle.recv.specs.declared.Number.the-variants.{Is as is-number, Refused as number-refused}
-use Rattle.recv.specs.declared.Refusal.the-variants.{NotSound, RoomTooSmall}
+use Rattle.recv.specs.declared.Refusal.the-variants.{NotSound, NoRoom}
 use Rattle.recv.specs.declared.Taken.{Taken}
 use Rattle.recv.specs.declared.Writing.{Writing}
 use Rattle.recv.specs.declared.Writing.the-variants.{Stored, AlreadyThere, Refused}
@@ -132,7 +132,7 @@ module _ (r : Run) (good : RecvLaws.Delivered r) where
     mask-is-sack = by-tests (soundOf (r .state)) (leb (length (sackOf table)) (length room)) (told .size-told) (told .bytes-told)
       where
         by-tests :
-            (b k : Bool) → cond b (cond k (is-count (length (sackOf table))) (count-refused RoomTooSmall)) (count-refused NotSound) ≡ is-count (told .size)
+            (b k : Bool) → cond b (cond k (is-count (length (sackOf table))) (count-refused NoRoom)) (count-refused NotSound) ≡ is-count (told .size)
             → take (told .size) (cond (b && k) (over (sackOf table) room) room) ≡ a .mask
             → a .mask ≡ sackOf table
         by-tests true true e f =

@@ -5,7 +5,7 @@ use mathlib.Core.Bool.{cond}
 use lib.Dec.{eqb}
 use native.Mathlib.Omega.{arith}
 use Rattle.common.specs.Answer.{Answer, done, refused}
-use Rattle.packet.specs.declared.sack.SackReason.the-variants.{Insufficient, NotWords, TooLong}
+use Rattle.packet.specs.declared.sack.SackReason.the-variants.{SackShort, SackNotWords, SackLong}
 use Rattle.outgoing.specs.declared.answer.Reason.{Reason}
 use Rattle.outgoing.specs.declared.answer.Reason.the-variants.{BadSack, BadSetting, BadTime, NotSent, NoWindow, NoPlace, TooMany, NotSound}
 use Rattle.outgoing.specs.declared.answer.Outcome.{Outcome}
@@ -24,12 +24,12 @@ use Rattle.outgoing.specs.Answers.{reasonNumber, outcome, numberTold, se
 
 -- the reason of a number
 abbrev reasonOf : ℕ → Reason
-reasonOf n = cond (eqb n 5) (BadSack Insufficient) (cond (eqb n 6) (BadSack NotWords) (cond (eqb n 8) (BadSack TooLong) (cond (eqb n 10) BadSetting (cond (eqb n 11) BadTime (cond (eqb n 12) NotSent (cond (eqb n 13) NoWindow (cond (eqb n 14) NoPlace (cond (eqb n 15) TooMany (NotSound)))))))))
+reasonOf n = cond (eqb n 5) (BadSack SackShort) (cond (eqb n 6) (BadSack SackNotWords) (cond (eqb n 8) (BadSack SackLong) (cond (eqb n 10) BadSetting (cond (eqb n 11) BadTime (cond (eqb n 12) NotSent (cond (eqb n 13) NoWindow (cond (eqb n 14) NoPlace (cond (eqb n 15) TooMany (NotSound)))))))))
 
 reason-back : (r : Reason) → reasonOf (reasonNumber r) ≡ r
-reason-back (BadSack Insufficient) = refl
-reason-back (BadSack NotWords) = refl
-reason-back (BadSack TooLong) = refl
+reason-back (BadSack SackShort) = refl
+reason-back (BadSack SackNotWords) = refl
+reason-back (BadSack SackLong) = refl
 reason-back BadSetting = refl
 reason-back BadTime = refl
 reason-back NotSent = refl

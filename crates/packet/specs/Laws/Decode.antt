@@ -11,31 +11,24 @@ use native.Mathlib.Omega.{arith}
 use mathlib.Core.List.{List, _++_}
 use mathlib.Core.Path.{_≡_, _∙_, refl, ap}
 use Rattle.common.specs.Answer.{Answer, done, refused}
-use Rattle.packet.specs.Chain.{Chain, past, whole, Sacked, nowhere, inside, firstSack, none, sackRead, readOf, chainFrom}
+use Rattle.packet.specs.Chain.{Chain, past, whole, Sacked, readOf, chainFrom}
 use Rattle.packet.specs.Decode.{sackAnswer, payloadAnswer, packetOf, behindHeader, chainOf, decodeOf, partOf}
 use Rattle.packet.specs.Laws.Layout.{extension-field, first-field}
 use Rattle.packet.specs.declared.decode.Packet.{Packet}
 use Rattle.packet.specs.declared.header.Header.{Header}
-use Rattle.packet.specs.declared.extension.ChainRead.{ChainRead}
-use Rattle.packet.specs.declared.extension.ChainRead.the-variants.{Past, Plain, WithSack}
 
 -- The chain begins with the byte that names the first extension.
 pub chain-of : (d : List ℕ) → 20 ≤ length d → readOf (chainOf d) ≡ readOf (chainFrom d (record { number = getD d 1 0; at = 20 }))
 chain-of d h = ap (λ (n : ℕ). readOf (chainFrom d (record { number = n; at = 20 }))) (extension-field d h)
 
 module _ (h : Header) (size : ℕ) where
-  abbrev pub behindRead : ChainRead → Answer Packet
-  behindRead Past = refused 4
-  behindRead (Plain at) = packetOf h (done none) (payloadAnswer h size at)
-  behindRead (WithSack p at) = packetOf h (sackAnswer (inside p)) (payloadAnswer h size at)
+  abbrev pub behindRead : Answer (Sacked × ℕ) → Answer Packet
+  behindRead (refused n) = refused n
+  behindRead (done (sack, at)) = packetOf h (sackAnswer sack) (payloadAnswer h size at)
 
-  pub behind-read : (k : Chain) (r : ChainRead) → readOf k ≡ r → behindHeader h size k ≡ behindRead r
+  pub behind-read : (k : Chain) (r : Answer (Sacked × ℕ)) → readOf k ≡ r → behindHeader h size k ≡ behindRead r
   behind-read past r e = ap behindRead e
-  behind-read (whole es at) r e = by-sack (firstSack es) ∙ ap behindRead e
-    where
-      by-sack : (s : Sacked) → packetOf h (sackAnswer s) (payloadAnswer h size at) ≡ behindRead (sackRead s at)
-      by-sack nowhere = refl
-      by-sack (inside p) = refl
+  behind-read (whole es at) r e = ap behindRead e
 
 -- The header's checks, each by the bytes that it looks at.
 pub decode-short : (d : List ℕ) → length d < 20 → decodeOf d ≡ refused 1

@@ -11,7 +11,7 @@ use borrow.Author.Tests.{le-leb, eqb-true}
 use Rattle.common.specs.Answer.{Answer, done, refused}
 use Rattle.packet.specs.Kind.{typeNumber, typeOf}
 use Rattle.packet.specs.Layout.{bytesOf, fieldsOf, widths, fieldsOfHeader, headerOf, typeField, versionField, extensionField, emptyData}
-use Rattle.packet.specs.Chain.{stepOf, chainFrom, whole, none}
+use Rattle.packet.specs.Chain.{onward, stepOf, chainFrom, whole, none}
 use Rattle.packet.specs.Sack.{maskAnswer}
 use Rattle.packet.specs.Decode.{behindHeader, chainOf, decodeOf, partOf}
 use Rattle.packet.specs.Encode.{extensionByte, extensionBytes, packetBytes, sizeOf, encodeOf}
@@ -23,7 +23,6 @@ use Rattle.packet.specs.Laws.RoundTrip.{Fitted, fields-of-bytes}
 use Rattle.packet.specs.declared.extension.Cursor.{Cursor}
 use Rattle.packet.specs.declared.extension.Extension.{Extension}
 use Rattle.packet.specs.declared.extension.Part.{Part}
-use Rattle.packet.specs.declared.extension.Step.the-variants.{Found}
 use Rattle.packet.specs.declared.header.Header.{Header}
 use Rattle.packet.specs.declared.kind.PacketType.{PacketType}
 
@@ -127,7 +126,7 @@ module _ (h : Header) (fits : HeaderFits h) (payload : List ℕ) where
 
     sacked-step :
         stepOf sacked (record { number = 1; at = 20 })
-        ≡ Found (record { number = 1; body = record { at = 22; len = length (b ∷ bs) } }) (record { number = 0; at = 22 + length (b ∷ bs) })
+        ≡ done (onward (record { number = 1; body = record { at = 22; len = length (b ∷ bs) } }) (record { number = 0; at = 22 + length (b ∷ bs) }))
     sacked-step =
         let head : 22 ≤ length sacked = omega (arith, size) in
         let body : 22 + length (b ∷ bs) ≤ length sacked = omega (arith, size) in

@@ -12,7 +12,7 @@ use Rattle.common.specs.Answer.{Answer, done, refused, _then_}
 use Rattle.packet.specs.Kind.{typeNumber, typeOf}
 use Rattle.packet.specs.Laws.Kind.{number-back}
 use Rattle.packet.specs.Layout.{bytesOf, fieldsOf, widths, fieldsOfHeader, headerLength, headerOf, typeField, versionField, extensionField, emptyData}
-use Rattle.packet.specs.Chain.{Chain, past, whole, before, stepOf, extensionAt, goOn, chainFrom, none, inside}
+use Rattle.packet.specs.Chain.{Next, ends, onward, Chain, past, whole, before, stepOf, extensionAt, goOn, chainFrom, none, inside}
 use Rattle.packet.specs.Decode.{behindHeader, chainOf, decodeOf, partOf, packetOf, sackAnswer, payloadAnswer}
 use Rattle.packet.specs.Encode.{extensionByte, extensionBytes, packetBytes}
 use Rattle.packet.specs.Laws.Chain.{chain-step, step-ends, step-found}
@@ -23,8 +23,6 @@ use Rattle.packet.specs.declared.decode.Packet.{Packet}
 use Rattle.packet.specs.declared.extension.Cursor.{Cursor}
 use Rattle.packet.specs.declared.extension.Extension.{Extension}
 use Rattle.packet.specs.declared.extension.Part.{Part}
-use Rattle.packet.specs.declared.extension.Step.{Step}
-use Rattle.packet.specs.declared.extension.Step.the-variants.{Ends, RunsPast, Found}
 use Rattle.packet.specs.declared.header.Header.{Header}
 
 -- The chain is empty, or is one SACK.
@@ -73,10 +71,10 @@ chain-empty d c at e = go (stepOf d c) refl (sym (chain-step d c) ∙ e)
     never x past g = let z : _≡_ {A = ℕ} 0 1 = cc in absurd (omega arith)
     never x (whole es place) g = let z : _≡_ {A = ℕ} 0 1 = cc in absurd (omega arith)
 
-    go : (s : Step) → stepOf d c ≡ s → goOn (c .at) s (chainFrom d) ≡ whole [] at → (c .number ≡ 0) × (c .at ≡ at)
-    go Ends t f = (step-ends d c t, cc)
-    go RunsPast t f = let z : _≡_ {A = ℕ} 0 1 = cc in absurd (omega arith)
-    go (Found x next) t f = never x (chainFrom d next) f
+    go : (s : Answer Next) → stepOf d c ≡ s → goOn (c .at) s (chainFrom d) ≡ whole [] at → (c .number ≡ 0) × (c .at ≡ at)
+    go (done ends) t f = (step-ends d c t, cc)
+    go (refused n) t f = let z : _≡_ {A = ℕ} 0 1 = cc in absurd (omega arith)
+    go (done (onward x next)) t f = never x (chainFrom d next) f
 
 -- One extension: it stands at the cursor, and behind it the chain ends.
 record One (d : List ℕ) (c : Cursor) (x : Extension) (at : ℕ) : Type 0 where
@@ -92,17 +90,17 @@ chain-one d c x at e = go (stepOf d c) refl (sym (chain-step d c) ∙ e)
     tail y past g = let z : _≡_ {A = ℕ} 0 1 = cc in absurd (omega arith)
     tail y (whole es place) g = (cc, cc)
 
-    go : (s : Step) → stepOf d c ≡ s → goOn (c .at) s (chainFrom d) ≡ whole (x ∷ []) at → One d c x at
-    go Ends t f = let z : _≡_ {A = ℕ} 0 1 = cc in absurd (omega arith)
-    go RunsPast t f = let z : _≡_ {A = ℕ} 0 1 = cc in absurd (omega arith)
-    go (Found y next) t f =
+    go : (s : Answer Next) → stepOf d c ≡ s → goOn (c .at) s (chainFrom d) ≡ whole (x ∷ []) at → One d c x at
+    go (done ends) t f = let z : _≡_ {A = ℕ} 0 1 = cc in absurd (omega arith)
+    go (refused n) t f = let z : _≡_ {A = ℕ} 0 1 = cc in absurd (omega arith)
+    go (done (onward y next)) t f =
         let told = step-found d c y next t in
         let split = tail y (chainFrom d next) f in
-        let ends = chain-empty d next at (split .1) in
+        let end = chain-empty d next at (split .1) in
         record {
           is = sym (split .0) ∙ told .0;
-          last = ap (λ (k : Cursor). k .number) (sym (told .1)) ∙ ends .0;
-          end = ap (λ (k : Cursor). k .at) (sym (told .1)) ∙ ends .1;
+          last = ap (λ (k : Cursor). k .number) (sym (told .1)) ∙ end .0;
+          end = ap (λ (k : Cursor). k .at) (sym (told .1)) ∙ end .1;
           within = told .2;
         }
 

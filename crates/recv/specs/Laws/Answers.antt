@@ -17,7 +17,7 @@ use Rattle.recv.specs.Laws.Cases.{cond-true, cond-false}
 use Rattle.recv.specs.Laws.State.{Sound, sound-facts}
 use Rattle.recv.specs.Laws.Table.{not-there}
 use Rattle.recv.specs.declared.ReceiveBuffer.{ReceiveBuffer}
-use Rattle.recv.specs.declared.Refusal.the-variants.{PastLimit, TooFarAhead, PayloadTooLong, OtherLength, NotSound}
+use Rattle.recv.specs.declared.Refusal.the-variants.{TooMany, TooFarAhead, PayloadTooLong, OtherLength, NotSound}
 use Rattle.recv.specs.declared.Writing.{Writing}
 use Rattle.recv.specs.declared.Writing.the-variants.{Stored, AlreadyThere, Refused}
 
@@ -29,7 +29,7 @@ module _ (size c ready : ℕ) (table : List ℕ) (o n : ℕ) where
   rule-there h = cond-true _ _ _ h
 
   module _ (new : thereOf c table o ≡ false) where
-    pub rule-limit : limit < o → ruleOf size c ready table o n ≡ Refused PastLimit
+    pub rule-limit : limit < o → ruleOf size c ready table o n ≡ Refused TooMany
     unfolding ruleOf
     rule-limit h = cond-false _ _ _ new ∙ cond-true _ _ _ (lt-ltb limit o h)
 

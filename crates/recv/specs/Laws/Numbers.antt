@@ -12,7 +12,7 @@ use Rattle.recv.specs.declared.Creation.the-variants.{Made, Refused as c
 use Rattle.recv.specs.declared.Number.{Number}
 use Rattle.recv.specs.declared.Number.the-variants.{Is as number-is, Refused as number-refused}
 use Rattle.recv.specs.declared.Refusal.{Refusal}
-use Rattle.recv.specs.declared.Refusal.the-variants.{RoomTooSmall, LengthOutOfRange, PastLimit, TooFarAhead, PayloadTooLong, OtherLength, NotSound}
+use Rattle.recv.specs.declared.Refusal.the-variants.{NoRoom, BadSetting, TooMany, TooFarAhead, PayloadTooLong, OtherLength, NotSound}
 use Rattle.recv.specs.declared.Truth.{Truth}
 use Rattle.recv.specs.declared.Truth.the-variants.{Is as truth-is, Refused as truth-refused}
 use Rattle.recv.specs.declared.Writing.{Writing}
@@ -25,18 +25,18 @@ module _ {A B : Type 0} (f : A → B) (back : B → A) (reads : (a : A) → back
 
 refusal : ℕ → Refusal
 refusal n =
-    cond (eqb n 9) RoomTooSmall
-    (cond (eqb n 10) LengthOutOfRange
-    (cond (eqb n 15) PastLimit
+    cond (eqb n 9) NoRoom
+    (cond (eqb n 10) BadSetting
+    (cond (eqb n 15) TooMany
     (cond (eqb n 16) TooFarAhead
     (cond (eqb n 17) PayloadTooLong
     (cond (eqb n 18) OtherLength NotSound)))))
 
 refusal-back : (why : Refusal) → refusal (numberOf why) ≡ why
 unfolding refusal
-refusal-back RoomTooSmall = refl
-refusal-back LengthOutOfRange = refl
-refusal-back PastLimit = refl
+refusal-back NoRoom = refl
+refusal-back BadSetting = refl
+refusal-back TooMany = refl
 refusal-back TooFarAhead = refl
 refusal-back PayloadTooLong = refl
 refusal-back OtherLength = refl
@@ -54,9 +54,9 @@ module _ {A : Type 0} (done : ℕ → A) (none : A) (refused : Refusal → A) wh
 
   refused-back : (why : Refusal) → answer (numberOf why ∷ []) ≡ refused why
   unfolding answer refusal
-  refused-back RoomTooSmall = refl
-  refused-back LengthOutOfRange = refl
-  refused-back PastLimit = refl
+  refused-back NoRoom = refl
+  refused-back BadSetting = refl
+  refused-back TooMany = refl
   refused-back TooFarAhead = refl
   refused-back PayloadTooLong = refl
   refused-back OtherLength = refl

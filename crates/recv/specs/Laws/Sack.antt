@@ -19,7 +19,7 @@ use Rattle.recv.specs.Calls.{ackedOf, ackedRoomOf}
 use Rattle.recv.specs.Laws.Cases.{cond-true, cond-false, and-true, and-false, lt-or-ge}
 use Rattle.recv.specs.declared.Count.the-variants.{Is, Refused}
 use Rattle.recv.specs.declared.ReceiveBuffer.{ReceiveBuffer}
-use Rattle.recv.specs.declared.Refusal.the-variants.{RoomTooSmall, NotSound}
+use Rattle.recv.specs.declared.Refusal.the-variants.{NoRoom, NotSound}
 
 -- ---- a list by its places
 
@@ -102,7 +102,7 @@ module _ (s : ReceiveBuffer) (room : List ℕ) where
 
   module _ (yes : soundOf s ≡ true) where
     module _ (short : length room < length (sackOf (tableOf s))) where
-      pub small-acked : Refused RoomTooSmall ≡ ackedOf s (length room)
+      pub small-acked : Refused NoRoom ≡ ackedOf s (length room)
       small-acked = sym (cond-true _ _ _ yes ∙ cond-false _ _ _ (lt-leb (length (sackOf (tableOf s))) (length room) short))
 
       pub small-acked-room : room ≡ ackedRoomOf s room

@@ -5,14 +5,14 @@ use mathlib.Core.List.{List, [], _∷_}
 use mathlib.Core.Path.{_≡_, refl, sym, ap, ap₂}
 use Rattle.common.specs.Answer.{Answer, done, refused}
 use Rattle.session.specs.declared.line.Line.{Line}
-use Rattle.session.specs.declared.line.Bad.the-variants.{NoSession, BadSetting}
+use Rattle.session.specs.declared.line.Bad.the-variants.{BadSession, BadSetting}
 use Rattle.session.specs.declared.line.Written.{Written}
 use Rattle.session.specs.declared.line.Written.the-variants.{Behind, NoRoom}
 use Rattle.session.specs.declared.replay.Replay.{Replay}
 use Rattle.session.specs.declared.replay.Start.{Start}
 use Rattle.session.specs.declared.replay.Start.the-variants.{Ready, Refused as StartRefused}
 use Rattle.session.specs.declared.replay.Started.{Started}
-use Rattle.session.specs.declared.replay.StepReason.the-variants.{NotThere, NotSound}
+use Rattle.session.specs.declared.replay.StepReason.the-variants.{BadSession as StepBad, NotSound}
 use Rattle.session.specs.declared.replay.Told.{Told}
 use Rattle.session.specs.declared.replay.Told.the-variants.{Event as EventTold, Ended, Refused as StepRefused}
 use Rattle.session.specs.declared.replay.Stepped.{Stepped}
@@ -47,14 +47,14 @@ wrote-one x y e =
 
 start-one : (x y : Start) → startTold x ≡ startTold y → x ≡ y
 start-one Ready Ready e = refl
-start-one Ready (StartRefused NoSession) e = differ tt 20 e
+start-one Ready (StartRefused BadSession) e = differ tt 20 e
 start-one Ready (StartRefused BadSetting) e = differ tt 10 e
-start-one (StartRefused NoSession) Ready e = differ tt 20 (sym e)
+start-one (StartRefused BadSession) Ready e = differ tt 20 (sym e)
 start-one (StartRefused BadSetting) Ready e = differ tt 10 (sym e)
-start-one (StartRefused NoSession) (StartRefused NoSession) e = refl
+start-one (StartRefused BadSession) (StartRefused BadSession) e = refl
 start-one (StartRefused BadSetting) (StartRefused BadSetting) e = refl
-start-one (StartRefused NoSession) (StartRefused BadSetting) e = let n = number-one 20 10 e in absurd (omega (arith, n))
-start-one (StartRefused BadSetting) (StartRefused NoSession) e = let n = number-one 10 20 e in absurd (omega (arith, n))
+start-one (StartRefused BadSession) (StartRefused BadSetting) e = let n = number-one 20 10 e in absurd (omega (arith, n))
+start-one (StartRefused BadSetting) (StartRefused BadSession) e = let n = number-one 10 20 e in absurd (omega (arith, n))
 
 pub started-one : (x y : Started) → started x ≡ started y → x ≡ y
 started-one x y e =
@@ -72,20 +72,20 @@ never-empty x e = let z : _≡_ {A = ℕ} 0 1 = cc in absurd (omega arith)
 told-one : (x y : Told) → toldOf x ≡ toldOf y → x ≡ y
 told-one (EventTold l) (EventTold m) e = ap EventTold (cons-one l m (value-one (l ∷ []) (m ∷ []) e))
 told-one (EventTold l) Ended e = never-empty l (value-one (l ∷ []) [] e)
-told-one (EventTold l) (StepRefused NotThere) e = differ (l ∷ []) 20 e
+told-one (EventTold l) (StepRefused StepBad) e = differ (l ∷ []) 20 e
 told-one (EventTold l) (StepRefused NotSound) e = differ (l ∷ []) 19 e
 told-one Ended (EventTold m) e = never-empty m (sym (value-one [] (m ∷ []) e))
 told-one Ended Ended e = refl
-told-one Ended (StepRefused NotThere) e = differ [] 20 e
+told-one Ended (StepRefused StepBad) e = differ [] 20 e
 told-one Ended (StepRefused NotSound) e = differ [] 19 e
-told-one (StepRefused NotThere) (EventTold m) e = differ (m ∷ []) 20 (sym e)
+told-one (StepRefused StepBad) (EventTold m) e = differ (m ∷ []) 20 (sym e)
 told-one (StepRefused NotSound) (EventTold m) e = differ (m ∷ []) 19 (sym e)
-told-one (StepRefused NotThere) Ended e = differ [] 20 (sym e)
+told-one (StepRefused StepBad) Ended e = differ [] 20 (sym e)
 told-one (StepRefused NotSound) Ended e = differ [] 19 (sym e)
-told-one (StepRefused NotThere) (StepRefused NotThere) e = refl
+told-one (StepRefused StepBad) (StepRefused StepBad) e = refl
 told-one (StepRefused NotSound) (StepRefused NotSound) e = refl
-told-one (StepRefused NotThere) (StepRefused NotSound) e = let n = number-one 20 19 e in absurd (omega (arith, n))
-told-one (StepRefused NotSound) (StepRefused NotThere) e = let n = number-one 19 20 e in absurd (omega (arith, n))
+told-one (StepRefused StepBad) (StepRefused NotSound) e = let n = number-one 20 19 e in absurd (omega (arith, n))
+told-one (StepRefused NotSound) (StepRefused StepBad) e = let n = number-one 19 20 e in absurd (omega (arith, n))
 
 pub stepped-one : (x y : Stepped) → stepped x ≡ stepped y → x ≡ y
 stepped-one x y e =

@@ -11,7 +11,6 @@ use Rattle.common.specs.Laws.Put.{put}
 use Rattle.session.specs.declared.line.Line.{Line}
 use Rattle.session.specs.declared.replay.Replay.{Replay}
 use Rattle.session.specs.declared.replay.StepReason.{StepReason}
-use Rattle.session.specs.declared.replay.StepReason.the-variants.{NotThere, NotSound}
 use Rattle.session.specs.declared.replay.Told.{Told}
 use Rattle.session.specs.declared.replay.Told.the-variants.{Event as EventTold, Ended, Refused as StepRefused}
 use Rattle.session.specs.declared.replay.Filled.{Filled}
@@ -32,8 +31,7 @@ module _ (room : List ℕ) (used : ℕ) (told : Told) (next : Replay) (p : Answe
 
   pub turn-refused : (reason : StepReason) → told ≡ StepRefused reason → (record { used = used; ended = true; replay = next }, room) ≡ turnOf room used p
   unfolding turnOf
-  turn-refused NotThere t = ap (λ (x : Told). turnOf room used (toldOf x, next)) (sym t) ∙ ap (turnOf room used) is
-  turn-refused NotSound t = ap (λ (x : Told). turnOf room used (toldOf x, next)) (sym t) ∙ ap (turnOf room used) is
+  turn-refused reason t = ap (λ (x : Told). turnOf room used (toldOf x, next)) (sym t) ∙ ap (turnOf room used) is
 
 -- ---- turns one after another
 

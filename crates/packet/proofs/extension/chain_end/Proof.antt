@@ -9,6 +9,7 @@ use Prim.Native.Nat.{_+_, _-_}
 use mathlib.Core.Path.{_≡_, refl}
 use lib.ListN.{length}
 use Rattle.packet.specs.Chain.{endOf, chainFrom}
+use Rattle.packet.specs.Answers.{stepped}
 use Rattle.packet.proofs.extension.chain_end.Statement.{statement}
 use Rattle.packet.proofs.extension.chain_end.Tie as tie
 
@@ -30,7 +31,7 @@ enum-told c = search needs
 returns : tie.Need-returns Inv-loop μ-loop
 returns c = let d = now (c .before .before .before .before .before .args .datagram) in
     let l = c .before .before .before .loop in
-    sym (l .inv ∙ ap endOf (chain-ends d (l .cursor) (sym (c .before .before .step .ensures) ∙ c .enum-told .given .1)))
+    sym (l .inv ∙ ap endOf (chain-ends d (l .cursor) (sym (c .before .before .step .ensures) ∙ ap stepped (c .enum-told .given .1))))
 
 enum-told-2 : tie.Need-enum-told-2 Inv-loop μ-loop
 enum-told-2 c = search needs
@@ -38,7 +39,7 @@ enum-told-2 c = search needs
 returns-2 : tie.Need-returns-2 Inv-loop μ-loop
 returns-2 c = let d = now (c .before .before .before .before .before .args .datagram) in
     let l = c .before .before .before .loop in
-    sym (l .inv ∙ ap endOf (chain-past d (l .cursor) (sym (c .before .before .step .ensures) ∙ c .enum-told2 .given .1)))
+    sym (l .inv ∙ ap endOf (chain-past d (l .cursor) (sym (c .before .before .step .ensures) ∙ ap stepped (c .enum-told2 .given .1))))
 
 enum-known-next : tie.Need-enum-known-next Inv-loop μ-loop
 enum-known-next c = search needs
@@ -46,12 +47,12 @@ enum-known-next c = search needs
 loop-less : tie.Need-loop-less Inv-loop μ-loop
 loop-less c = let d = now (c .before .before .before .before .before .before .args .datagram) in
     let l = c .before .before .before .before .loop in
-    omega (arith, found-forward d (l .cursor) _ _ (sym (c .before .before .before .step .ensures) ∙ c .before .next .given .1))
+    omega (arith, found-forward d (l .cursor) _ _ (sym (c .before .before .before .step .ensures) ∙ ap stepped (c .before .next .given .1)))
 
 loop-again : tie.Need-loop-again Inv-loop μ-loop
 loop-again c = let d = now (c .before .before .before .before .before .before .args .datagram) in
     let l = c .before .before .before .before .loop in
-    l .inv ∙ (ap endOf (chain-found d (l .cursor) _ _ (sym (c .before .before .before .step .ensures) ∙ c .before .next .given .1)) ∙ end-before (c .before .next .given .0 .0) (chainFrom d (c .before .next .given .0 .1 .0)))
+    l .inv ∙ (ap endOf (chain-found d (l .cursor) _ _ (sym (c .before .before .before .step .ensures) ∙ ap stepped (c .before .next .given .1))) ∙ end-before (c .before .next .given .0 .0) (chainFrom d (c .before .next .given .0 .1 .0)))
 
 pub chain-end-spec : {M : Type 1} → statement M
 chain-end-spec =

@@ -10,6 +10,7 @@ use Prim.Native.Nat.{_+_, _-_}
 use mathlib.Core.Path.{_≡_, refl}
 use lib.ListN.{length}
 use Rattle.packet.specs.Chain.{readOf, chainFrom}
+use Rattle.packet.specs.Answers.{stepped, ended}
 use Rattle.packet.proofs.extension.read_chain.Statement.{statement}
 use Rattle.packet.proofs.extension.read_chain.Tie as tie
 
@@ -31,7 +32,7 @@ enum-told c = search needs
 returns : tie.Need-returns Inv-loop μ-loop
 returns c = let d = now (c .before .before .before .before .before .args .datagram) in
     let l = c .before .before .before .loop in
-    sym (l .inv ∙ ap readOf (chain-ends d (l .cursor) (sym (c .before .before .step .ensures) ∙ c .enum-told .given .1)))
+    sym (l .inv ∙ ap readOf (chain-ends d (l .cursor) (sym (c .before .before .step .ensures) ∙ ap stepped (c .enum-told .given .1))))
 
 enum-told-2 : tie.Need-enum-told-2 Inv-loop μ-loop
 enum-told-2 c = search needs
@@ -39,7 +40,7 @@ enum-told-2 c = search needs
 returns-2 : tie.Need-returns-2 Inv-loop μ-loop
 returns-2 c = let d = now (c .before .before .before .before .before .args .datagram) in
     let l = c .before .before .before .loop in
-    sym (l .inv ∙ ap readOf (chain-past d (l .cursor) (sym (c .before .before .step .ensures) ∙ c .enum-told2 .given .1)))
+    sym (l .inv ∙ ap readOf (chain-past d (l .cursor) (sym (c .before .before .step .ensures) ∙ ap stepped (c .enum-told2 .given .1))))
 
 enum-known-extension : tie.Need-enum-known-extension Inv-loop μ-loop
 enum-known-extension c = search needs
@@ -60,8 +61,8 @@ returns-3 c = let d = now (c .before .before .before .before .before .before .be
     let next = chainFrom d (found .0 .1 .0) in
     sym
     (l .inv
-    ∙ (ap readOf (chain-found d (l .cursor) _ _ (sym (c .before .before .before .before .before .before .before .before .before .step .ensures) ∙ found .1))
-    ∙ read-past (found .0 .0) next (sym (c .before .before .chain-end .ensures) ∙ c .enum-told3 .given .1)))
+    ∙ (ap readOf (chain-found d (l .cursor) _ _ (sym (c .before .before .before .before .before .before .before .before .before .step .ensures) ∙ ap stepped (found .1)))
+    ∙ read-past (found .0 .0) next (sym (c .before .before .chain-end .ensures) ∙ ap ended (c .enum-told3 .given .1))))
 
 returns-4 : tie.Need-returns-4 Inv-loop μ-loop
 returns-4 c = let d = now (c .before .before .before .before .before .before .before .before .before .before .before .before .before .args .datagram) in
@@ -71,20 +72,20 @@ returns-4 c = let d = now (c .before .before .before .before .before .before .be
     let end = c .before .at .given in
     sym
     (l .inv
-    ∙ (ap readOf (chain-found d (l .cursor) _ _ (sym (c .before .before .before .before .before .before .before .before .before .before .step .ensures) ∙ found .1))
-    ∙ read-sack (found .0 .0) (end .0 .0) next (eq-eqb _ _ (c .before .before .before .before .before .if1 .taken)) (sym (c .before .before .before .chain-end .ensures) ∙ end .1)))
+    ∙ (ap readOf (chain-found d (l .cursor) _ _ (sym (c .before .before .before .before .before .before .before .before .before .before .step .ensures) ∙ ap stepped (found .1)))
+    ∙ read-sack (found .0 .0) (end .0 .0) next (eq-eqb _ _ (c .before .before .before .before .before .if1 .taken)) (sym (c .before .before .before .chain-end .ensures) ∙ ap ended (end .1))))
 
 loop-less : tie.Need-loop-less Inv-loop μ-loop
 loop-less c = let d = now (c .before .before .before .before .before .before .before .before .args .datagram) in
     let l = c .before .before .before .before .before .before .loop in
-    omega (arith, found-forward d (l .cursor) _ _ (sym (c .before .before .before .before .before .step .ensures) ∙ c .before .before .before .extension .given .1))
+    omega (arith, found-forward d (l .cursor) _ _ (sym (c .before .before .before .before .before .step .ensures) ∙ ap stepped (c .before .before .before .extension .given .1)))
 
 loop-again : tie.Need-loop-again Inv-loop μ-loop
 loop-again c = let d = now (c .before .before .before .before .before .before .before .before .args .datagram) in
     let l = c .before .before .before .before .before .before .loop in
     let found = c .before .before .before .extension .given in
     l .inv
-    ∙ (ap readOf (chain-found d (l .cursor) _ _ (sym (c .before .before .before .before .before .step .ensures) ∙ found .1))
+    ∙ (ap readOf (chain-found d (l .cursor) _ _ (sym (c .before .before .before .before .before .step .ensures) ∙ ap stepped (found .1)))
     ∙ read-before (found .0 .0) (chainFrom d (found .0 .1 .0)) (ne-eqb _ _ (c .if1 .left)))
 
 pub read-chain-spec : {M : Type 1} → statement M

@@ -22,14 +22,14 @@ parts-of-requires c κs = search needs
 enum-known-outcome-2 : tie.Need-enum-known-outcome-2
 enum-known-outcome-2 c = search needs
 
-of-reading-requires : tie.Need-of-reading-requires
-of-reading-requires c κs = search needs
+number-requires : tie.Need-number-requires
+number-requires c κs = search needs
 
 returns : tie.Need-returns
 returns c = ap (answered 0) (c .parts-of .ensures) ∙ ap (λ (o : Decoded). readAs (c .before .before .before .before .args .old) (decoded o)) (sym (c .before .before .outcome .given .1))
 
 returns-2 : tie.Need-returns-2
-returns-2 c = ap (λ (n : ℕ). answered n (c .before .before .before .before .args .old)) (c .of-reading .ensures) ∙ ap (λ (o : Decoded). readAs (c .before .before .before .before .args .old) (decoded o)) (sym (c .before .before .outcome2 .given .1))
+returns-2 c = ap (λ (n : ℕ). answered n (c .before .before .before .before .args .old)) (c .number .ensures) ∙ ap (λ (o : Decoded). readAs (c .before .before .before .before .args .old) (decoded o)) (sym (c .before .before .outcome2 .given .1))
 
 pub shown-spec : {M : Type 1} → statement M
 shown-spec =
@@ -38,6 +38,6 @@ shown-spec =
     enum-known-outcome
     parts-of-requires
     enum-known-outcome-2
-    of-reading-requires
+    number-requires
     returns
     returns-2)

@@ -18,16 +18,16 @@ enum-told c = search needs
 enum-known-creation : tie.Need-enum-known-creation
 enum-known-creation c = search needs
 
-of-receiver-requires : tie.Need-of-receiver-requires
-of-receiver-requires c κs = search needs
+number-requires : tie.Need-number-requires
+number-requires c κs = search needs
 
 returns : tie.Need-returns
 returns c = ap (λ (o : Creation). createdAs (c .before .before .before .args .old) o (c .before .before .before .args .new .state)) (sym (c .enum-told .given .1))
 
 returns-2 : tie.Need-returns-2
-returns-2 c = ap (λ (n : ℕ). answered n (c .before .before .before .before .before .args .old)) (c .of-receiver .ensures)
+returns-2 c = ap (λ (n : ℕ). answered n (c .before .before .before .before .before .args .old)) (c .number .ensures)
     ∙ ap (λ (o : Creation). createdAs (c .before .before .before .before .before .args .old) o (c .before .before .before .before .before .args .new .state)) (sym (c .before .before .creation .given .1))
 
 pub created-spec : {M : Type 1} → statement M
 created-spec =
-    tie.close (tie.spec enum-told enum-known-creation of-receiver-requires returns returns-2)
+    tie.close (tie.spec enum-told enum-known-creation number-requires returns returns-2)

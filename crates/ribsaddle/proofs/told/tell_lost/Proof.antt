@@ -26,8 +26,8 @@ cast-tag c = search needs
 enum-known-told-2 : tie.Need-enum-known-told-2
 enum-known-told-2 c = search needs
 
-of-tracker-requires : tie.Need-of-tracker-requires
-of-tracker-requires c κs = search needs
+number-requires-2 : tie.Need-number-requires-2
+number-requires-2 c κs = search needs
 
 returns : tie.Need-returns
 returns c =
@@ -43,7 +43,7 @@ returns-2 : tie.Need-returns-2
 returns-2 c =
     let a = c .before .before .before .before .args in
     let g = sym (c .before .before .told2 .given .1) in (
-      c .of-tracker .ensures ∙ ap (λ (t : LostTold). numberOf (lostTold t)) g,
+      c .number2 .ensures ∙ ap (λ (t : LostTold). numberOf (lostTold t)) g,
       ap (λ (t : LostTold). partOr lostNumberOf (a .number .now) (lostTold t)) g,
       ap (λ (t : LostTold). partOr lostTypeOf (a .packet-type .now) (lostTold t)) g,
       ap (λ (t : LostTold). partOr lostTagOf (a .tag .now) (lostTold t)) g,
@@ -59,6 +59,6 @@ tell-lost-spec =
     cast-packet-type
     cast-tag
     enum-known-told-2
-    of-tracker-requires
+    number-requires-2
     returns
     returns-2)

@@ -19,16 +19,16 @@ enum-told c = search needs
 enum-known-outcome : tie.Need-enum-known-outcome
 enum-known-outcome c = search needs
 
-of-tracker-requires : tie.Need-of-tracker-requires
-of-tracker-requires c κs = search needs
+number-requires : tie.Need-number-requires
+number-requires c κs = search needs
 
 returns : tie.Need-returns
 returns c = ap (λ (o : Outcome). startedAs (c .before .before .before .args .old) (outcome o, c .before .before .before .args .stepping .head)) (sym (c .enum-told .given .1))
 
 returns-2 : tie.Need-returns-2
-returns-2 c = ap (λ (n : ℕ). answered n (c .before .before .before .before .before .args .old)) (c .of-tracker .ensures)
+returns-2 c = ap (λ (n : ℕ). answered n (c .before .before .before .before .before .args .old)) (c .number .ensures)
     ∙ ap (λ (o : Outcome). startedAs (c .before .before .before .before .before .args .old) (outcome o, c .before .before .before .before .before .args .stepping .head)) (sym (c .before .before .outcome .given .1))
 
 pub created-spec : {M : Type 1} → statement M
 created-spec =
-    tie.close (tie.spec enum-told enum-known-outcome of-tracker-requires returns returns-2)
+    tie.close (tie.spec enum-told enum-known-outcome number-requires returns returns-2)

@@ -4,8 +4,8 @@ use mathlib.Core.Bool.{Bool, true, false, cond}
 use Rattle.congestion.specs.declared.settings.Settings.{Settings}
 use Rattle.congestion.specs.declared.numbers.Numbers.{Numbers}
 use Rattle.controller.specs.declared.delays.Delays.{Delays}
-use Rattle.controller.specs.declared.state.Outcome.{Outcome}
-use Rattle.controller.specs.declared.answer.Reason.the-variants.{SettingOutOfRange}
+use Rattle.controller.specs.declared.state.Controller.{Controller}
+use Rattle.common.specs.Answer.{Answer}
 use Rattle.congestion.specs.Settings.{inRangeOf}
 use Rattle.congestion.specs.Numbers.{newOf}
 use Rattle.controller.specs.Delays.{noDelays}
@@ -23,11 +23,11 @@ none-requires c κs = search needs
 in-range-requires : tie.Need-in-range-requires
 in-range-requires c κs = search needs
 
-made : Numbers → Delays → Outcome
+made : Numbers → Delays → Answer (Unit {0}) × Controller
 made n d = doneOf n d
 
-not-made : Numbers → Delays → Outcome
-not-made n d = refusedOf (record { numbers = n; delays = d }) SettingOutOfRange
+not-made : Numbers → Delays → Answer (Unit {0}) × Controller
+not-made n d = refusedOf (record { numbers = n; delays = d }) 10
 
 -- What comes back, the settings being in range or not.
 by-range : (s : Settings) (b : Bool) → inRangeOf s ≡ b → cond b (made (newOf s) noDelays) (not-made (newOf s) noDelays) ≡ controllerOf s

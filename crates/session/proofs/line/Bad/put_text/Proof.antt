@@ -39,23 +39,28 @@ add-put-field c = search needs
 number-requires : tie.Need-number-requires
 number-requires c κs = search needs
 
+wide64-requires : tie.Need-wide64-requires
+wide64-requires c κs = search needs
+
 put-field-requires : tie.Need-put-field-requires
 put-field-requires c κs = simp length-set (omega arith)
 
 same-length : tie.Need-same-length
-same-length c = c .before .before .put-field .kept .0 ∙ bad-length (now (c .before .before .before .before .before .before .args .room)) (c .before .before .before .before .before .before .args .at)
+same-length c = c .before .before .put-field .kept .0 ∙ bad-length (now (c .before .before .before .before .before .before .before .args .room)) (c .before .before .before .before .before .before .before .args .at)
 
 returns : tie.Need-returns
 unfolding badText
 returns c =
-    let a = c .before .before .before .before .before .before .args in
+    let start = c .before .before .before .before .before .before .before in
+    let a = start .args in
     let room = now (a .room) in
     let f = c .before .before .put-field in
-    let n = c .before .before .before .number in
+    let n = c .before .before .before .wide64 in
+    let is = n .ensures ∙ c .before .before .before .before .number .ensures in
     let front : List ℕ = 98 ∷ 97 ∷ 100 ∷ 32 ∷ [] in
-    let p1 : Placed room (a .at) front _ (a .at + 4) = record { place = refl; room-is = bad-stored room (a .at) (omega (arith, c .before .before .before .before .before .before .pre)) } in
-    let p2 = placed-next room (a .at) front _ (a .at + 4) (decimal (n .result) ++ (10 ∷ [])) (f .last .0) (f .result) p1 (omega (arith, c .before .before .before .before .before .before .pre)) (f .ensures .0) (f .ensures .2) in
-    (p2 .place ∙ ap (λ (k : ℕ). a .at + length (badText k)) (n .ensures), p2 .room-is ∙ ap (λ (k : ℕ). put room (a .at) (badText k)) (n .ensures))
+    let p1 : Placed room (a .at) front _ (a .at + 4) = record { place = refl; room-is = bad-stored room (a .at) (omega (arith, start .pre)) } in
+    let p2 = placed-next room (a .at) front _ (a .at + 4) (decimal (n .result) ++ (10 ∷ [])) (f .last .0) (f .result) p1 (omega (arith, start .pre)) (f .ensures .0) (f .ensures .2) in
+    (p2 .place ∙ ap (λ (k : ℕ). a .at + length (badText k)) is, p2 .room-is ∙ ap (λ (k : ℕ). put room (a .at) (badText k)) is)
 
 pub put-text-spec : {M : Type 1} → statement M
 put-text-spec =
@@ -70,6 +75,7 @@ put-text-spec =
     slice-write-room-4
     add-put-field
     number-requires
+    wide64-requires
     put-field-requires
     same-length
     returns)
