@@ -7,6 +7,7 @@ pub mod Chain
 pub mod Decode
 pub mod Encode
 pub mod OneToOne
-pub mod RoundTrip
+pub mod Fields
 pub mod ReadWritten
 pub mod WriteRead
+pub mod RoundTrips

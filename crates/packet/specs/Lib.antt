@@ -5,6 +5,7 @@ pub mod Layout
 pub mod Chain
 pub mod Decode
 pub mod Encode
+pub mod RoundTrips
 pub mod Answers
 pub mod Marked
 pub mod Laws

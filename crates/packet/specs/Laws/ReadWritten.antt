@@ -19,21 +19,13 @@ use Rattle.packet.specs.Laws.Chain.{chain-ends, chain-found}
 use Rattle.packet.specs.Laws.Decode.{decode-good, part-middle}
 use Rattle.packet.specs.Laws.Encode.{header-length, packet-length, encode-unfit}
 use Rattle.packet.specs.Laws.Kind.{type-small, type-back}
-use Rattle.packet.specs.Laws.RoundTrip.{Fitted, fields-of-bytes}
+use Rattle.packet.specs.Laws.Fields.{Fitted, fields-of-bytes}
+use Rattle.packet.specs.RoundTrips.{HeaderFits}
 use Rattle.packet.specs.declared.extension.Cursor.{Cursor}
 use Rattle.packet.specs.declared.extension.Extension.{Extension}
 use Rattle.packet.specs.declared.extension.Part.{Part}
 use Rattle.packet.specs.declared.header.Header.{Header}
 use Rattle.packet.specs.declared.kind.PacketType.{PacketType}
-
--- Each field of a header fits its width, as the field of a struct of such numbers always does.
-pub record HeaderFits (h : Header) : Type 0 where
-  pub conn-id : h .«conn_id» < 2 ^ 16
-  pub ts : h .«ts_micros» < 2 ^ 32
-  pub ts-diff : h .«ts_diff_micros» < 2 ^ 32
-  pub window : h .«window_size» < 2 ^ 32
-  pub seq : h .«seq_num» .0 < 2 ^ 16
-  pub ack : h .«ack_num» .0 < 2 ^ 16
 
 -- Where a written packet's parts stand: the SACK behind the header and its head of two bytes, the payload behind all.
 abbrev pub placeOfSack : List ℕ → Part

@@ -1,13 +1,13 @@
--- Writing a read packet gives the same bytes when its chain is empty or is one SACK (document 01, "Packets on the wire").
-use Prim.Native.Nat.{ℕ, zero, _+_, _*_, _-_, _%_, _≤_}
+-- Writing a read packet: its bytes are those of the datagram, and the writer accepts it, when its chain is empty or is one SACK.
+use Prim.Native.Nat.{ℕ, zero, suc, _+_, _*_, _-_, _%_, _≤_, _<_}
 use native.Mathlib.Omega.{arith}
 use mathlib.Core.Bool.{Bool, true, false, cond}
 use mathlib.Core.List.{List, [], _∷_, _++_}
-use mathlib.Core.Path.{_≡_, _∙_, refl, ap, ap₂, sym}
+use mathlib.Core.Path.{_≡_, _∙_, refl, ap, ap₂, sym, subst}
 use lib.Dec.{ltb, eqb}
 use lib.ListN.{length, take, drop, getD, take-append-drop, length-take, length-drop}
 use lib.Seq.{drop-cons, drop-drop, take-all, length-take-le}
-use borrow.Author.Tests.{le-leb, eqb-true, ltb-false}
+use borrow.Author.Tests.{le-leb, le-ltb, eqb-true, eq-eqb, ne-eqb, ltb-false}
 use Rattle.common.specs.Answer.{Answer, done, refused, _then_}
 use Rattle.packet.specs.Kind.{typeNumber, typeOf}
 use Rattle.packet.specs.Laws.Kind.{number-back}
@@ -15,20 +15,17 @@ use Rattle.packet.specs.Layout.{bytesOf, fieldsOf, widths, fieldsOfHeade
 use Rattle.packet.specs.Chain.{Next, ends, onward, Chain, past, whole, before, stepOf, extensionAt, goOn, chainFrom, none, inside}
 use Rattle.packet.specs.Decode.{behindHeader, chainOf, decodeOf, partOf, packetOf, sackAnswer, payloadAnswer}
 use Rattle.packet.specs.Encode.{extensionByte, extensionBytes, packetBytes}
+use Rattle.packet.specs.RoundTrips.{AtMostOneSack, empty, one-sack}
+use Rattle.packet.specs.Sack.{maskAnswer}
 use Rattle.packet.specs.Laws.Chain.{chain-step, step-ends, step-found}
 use Rattle.packet.specs.Laws.Decode.{decode-good}
 use Rattle.common.specs.Bytes.{AllBytes}
-use Rattle.packet.specs.Laws.RoundTrip.{bytes-of-fields}
+use Rattle.packet.specs.Laws.Fields.{bytes-of-fields}
 use Rattle.packet.specs.declared.decode.Packet.{Packet}
 use Rattle.packet.specs.declared.extension.Cursor.{Cursor}
 use Rattle.packet.specs.declared.extension.Extension.{Extension}
 use Rattle.packet.specs.declared.extension.Part.{Part}
 use Rattle.packet.specs.declared.header.Header.{Header}
-
--- The chain is empty, or is one SACK.
-pub data AtMostOneSack (d : List ℕ) : Type 0 where
-  empty : chainOf d ≡ whole [] headerLength → AtMostOneSack d
-  one-sack : (body : Part) (at : ℕ) → chainOf d ≡ whole (record { number = 1; body = body } ∷ []) at → AtMostOneSack d
 
 -- ---- what an accepted datagram's header tells
 
@@ -120,24 +117,26 @@ part-tail d at h = part-inside d at (length d - at) (omega arith) ∙ take-all (
 packet-is :
     (h : Header) (sack : Part) (size at : ℕ) (p : Packet)
     → packetOf h (done sack) (payloadAnswer h size at) ≡ done p
-    → p ≡ record { header = h; sack = sack; payload = record { at = at; len = size - at } }
+    → (p ≡ record { header = h; sack = sack; payload = record { at = at; len = size - at } }) × (emptyData h (size - at) ≡ false)
 packet-is h sack size at p = go (emptyData h (size - at))
   where
     go :
         (b : Bool) → packetOf h (done sack) (cond b (refused 7) (done (record { at = at; len = size - at }))) ≡ done p
-        → p ≡ record { header = h; sack = sack; payload = record { at = at; len = size - at } }
+        → (p ≡ record { header = h; sack = sack; payload = record { at = at; len = size - at } }) × (b ≡ false)
     go true e = let z : _≡_ {A = ℕ} 0 1 = cc in absurd (omega arith)
-    go false e = cc
+    go false e = (cc, refl)
 
-sack-is : (h : Header) (body : Part) (payload : Answer Part) (p : Packet) → packetOf h (sackAnswer (inside body)) payload ≡ done p → (4 ≤ body .len) × (packetOf h (done body) payload ≡ done p)
-sack-is h body payload p = go (ltb (body .len) 4) (eqb (body .len % 4) 0) refl
+sack-is :
+    (h : Header) (body : Part) (payload : Answer Part) (p : Packet) → packetOf h (sackAnswer (inside body)) payload ≡ done p
+    → (4 ≤ body .len) × (body .len % 4 ≡ 0) × (packetOf h (done body) payload ≡ done p)
+sack-is h body payload p = go (ltb (body .len) 4) (eqb (body .len % 4) 0) refl refl
   where
     go :
-        (b₁ b₂ : Bool) → ltb (body .len) 4 ≡ b₁ → packetOf h (cond b₁ (refused 5) (cond b₂ (done body) (refused 6))) payload ≡ done p
-        → (4 ≤ body .len) × (packetOf h (done body) payload ≡ done p)
-    go true b₂ t e = let z : _≡_ {A = ℕ} 0 1 = cc in absurd (omega arith)
-    go false true t e = (ltb-false _ _ t, e)
-    go false false t e = let z : _≡_ {A = ℕ} 0 1 = cc in absurd (omega arith)
+        (b₁ b₂ : Bool) → ltb (body .len) 4 ≡ b₁ → eqb (body .len % 4) 0 ≡ b₂ → packetOf h (cond b₁ (refused 5) (cond b₂ (done body) (refused 6))) payload ≡ done p
+        → (4 ≤ body .len) × (body .len % 4 ≡ 0) × (packetOf h (done body) payload ≡ done p)
+    go true b₂ t u e = let z : _≡_ {A = ℕ} 0 1 = cc in absurd (omega arith)
+    go false true t u e = (ltb-false _ _ t, eqb-true _ _ u, e)
+    go false false t u e = let z : _≡_ {A = ℕ} 0 1 = cc in absurd (omega arith)
 
 -- ---- the bytes
 
@@ -159,6 +158,24 @@ rejoined d n at next len end within =
     let whole-tail : 0 ∷ n ∷ (take n (drop 22 d) ++ drop at d) ≡ drop 20 d = ap (λ (l : List ℕ). 0 ∷ n ∷ l) tail ∙ sym (first ∙ ap (_∷_ 0) second) in
     ap (λ (l : List ℕ). take 20 d ++ l) whole-tail ∙ take-append-drop 20 d
 
+-- A mask of 4 to 255 bytes, a multiple of 4, may be written: it has at most 252.
+mask-may : (n : ℕ) → 4 ≤ n → n % 4 ≡ 0 → n < 256 → maskAnswer n ≡ done n
+mask-may n least words most =
+    let some : n ≡ 0 → ⊥ = λ e. omega arith in
+    let short : n ≤ 252 = omega arith in
+    simp (ne-eqb n 0 some, le-ltb _ _ least, eq-eqb _ _ words, le-ltb _ _ short)
+
+byte-at : (d : List ℕ) (i : ℕ) → AllBytes d → getD d i 0 < 256
+byte-at [] i all = omega arith
+byte-at (b ∷ bs) zero all = all .0
+byte-at (b ∷ bs) (suc i) all = byte-at bs i (all .1)
+
+-- What is to be shown of a packet read from `d`: its bytes are the datagram's, its SACK may be written, and so may its payload.
+pub record Again (d : List ℕ) (p : Packet) : Type 0 where
+  pub bytes : rewritten d p ≡ d
+  pub mask : maskAnswer (length (partOf (p .sack) d)) ≡ done (length (partOf (p .sack) d))
+  pub payload : emptyData (p .header) (length (partOf (p .payload) d)) ≡ false
+
 module _ (d : List ℕ) (p : Packet) (all : AllBytes d) (accepted : decodeOf d ≡ done p) where
   g : GoodHeader d
   g = good-header d p accepted
@@ -166,16 +183,21 @@ module _ (d : List ℕ) (p : Packet) (all : AllBytes d) (accepted : decodeOf d �
   behind : behindHeader (headerOf d) (length d) (chainOf d) ≡ done p
   behind = sym (decode-good d (g .long) (g .type) (g .version)) ∙ accepted
 
-  rewritten-plain : chainOf d ≡ whole [] 20 → rewritten d p ≡ d
-  rewritten-plain k =
+  again-plain : chainOf d ≡ whole [] 20 → Again d p
+  again-plain k =
       let is = packet-is (headerOf d) none (length d) 20 p (ap (behindHeader (headerOf d) (length d)) (sym k) ∙ behind) in
       let zero-first = chain-empty d (record { number = extensionField d; at = 20 }) 20 k .0 in
       let no-sack : partOf none d ≡ [] = part-inside d 0 0 (omega arith) in
-      ap (rewritten d) is
-      ∙ (simp (no-sack, part-tail d 20 (g .long), header-bytes-back d 0 all g zero-first) (take-append-drop 20 d))
+      let tail = part-tail d 20 (g .long) in
+      subst (Again d) (sym (is .0))
+      (record {
+        bytes = simp (no-sack, tail, header-bytes-back d 0 all g zero-first) (take-append-drop 20 d);
+        mask = ap (λ (l : List ℕ). maskAnswer (length l)) no-sack ∙ ap (λ (l : List ℕ). done (length l)) (sym no-sack);
+        payload = ap (λ (l : List ℕ). emptyData (headerOf d) (length l)) tail ∙ (ap (emptyData (headerOf d)) (length-drop 20 d) ∙ is .1);
+      })
 
-  rewritten-sack : (body : Part) (at : ℕ) → chainOf d ≡ whole (record { number = 1; body = body } ∷ []) at → rewritten d p ≡ d
-  rewritten-sack body at k =
+  again-sack : (body : Part) (at : ℕ) → chainOf d ≡ whole (record { number = 1; body = body } ∷ []) at → Again d p
+  again-sack body at k =
       let n = getD d 21 0 in
       let h = headerOf d in
       let sack = take n (drop 22 d) in
@@ -183,20 +205,29 @@ module _ (d : List ℕ) (p : Packet) (all : AllBytes d) (accepted : decodeOf d �
       let number : extensionField d ≡ 1 = ap (λ (x : Extension). x .number) (sym (one .is)) in
       let place : body ≡ record { at = 22; len = n } = ap (λ (x : Extension). x .body) (one .is) in
       let told = sack-is h body (payloadAnswer h (length d) at) p (ap (behindHeader h (length d)) (sym k) ∙ behind) in
-      let is = packet-is h body (length d) at p (told .1) in
+      let is = packet-is h body (length d) at p (told .2) in
       let end : 22 + n ≡ at = one .end in
       let within : at ≤ length d = omega (arith, one .within) in
-      let some : 4 ≤ n = rw (ap (λ (b : Part). b .len) place) at (told .0) in
+      let len-is : body .len ≡ n = ap (λ (b : Part). b .len) place in
+      let some : 4 ≤ n = rw len-is at (told .0) in
+      let words : n % 4 ≡ 0 = rw len-is at (told .1) in
       let size : length sack ≡ n = length-take-le n (drop 22 d) (simp length-drop (omega arith)) in
       let body-bytes : partOf body d ≡ sack = ap (λ (b : Part). partOf b d) place ∙ part-inside d 22 n (omega arith) in
       let written = sack-bytes sack (omega arith) in
       let head : extensionBytes sack ≡ 0 ∷ n ∷ sack = written .1 ∙ ap (λ (m : ℕ). 0 ∷ m ∷ sack) size in
-      ap (rewritten d) is
-      ∙ (ap₂ (packetBytes h) body-bytes (part-tail d at within)
-      ∙ (ap₂ (λ (a b : List ℕ). a ++ (b ++ drop at d)) (ap (λ (e : ℕ). bytesOf widths (fieldsOfHeader h e)) (written .0) ∙ header-bytes-back d 1 all g number) head
-      ∙ rejoined d n at (one .last) refl end within))
+      let tail = part-tail d at within in
+      let body-size : length (partOf body d) ≡ n = ap length body-bytes ∙ size in
+      subst (Again d) (sym (is .0))
+      (record {
+        bytes =
+            ap₂ (packetBytes h) body-bytes tail
+            ∙ (ap₂ (λ (a b : List ℕ). a ++ (b ++ drop at d)) (ap (λ (e : ℕ). bytesOf widths (fieldsOfHeader h e)) (written .0) ∙ header-bytes-back d 1 all g number) head
+            ∙ rejoined d n at (one .last) refl end within);
+        mask = ap maskAnswer body-size ∙ (mask-may n some words (byte-at d 21 all) ∙ ap done (sym body-size));
+        payload = ap (λ (l : List ℕ). emptyData h (length l)) tail ∙ (ap (emptyData h) (length-drop at d) ∙ is .1);
+      })
 
--- The theorem.
-pub write-read : (d : List ℕ) (p : Packet) → AllBytes d → decodeOf d ≡ done p → AtMostOneSack d → rewritten d p ≡ d
-write-read d p all accepted (empty k) = rewritten-plain d p all accepted k
-write-read d p all accepted (one-sack body at k) = rewritten-sack d p all accepted body at k
+-- All three, for both kinds of chain.
+pub again : (d : List ℕ) (p : Packet) → AllBytes d → decodeOf d ≡ done p → AtMostOneSack d → Again d p
+again d p all accepted (empty k) = again-plain d p all accepted k
+again d p all accepted (one-sack body at k) = again-sack d p all accepted body at k

@@ -1,4 +1,4 @@
--- Reading a written packet gives its parts back, and writing a read packet gives the same bytes when its chain is empty or is one SACK (document 01, "Packets on the wire").
+-- Numbers and their bytes, and fields of any widths and their bytes: each gives the other back.
 use Prim.Native.Nat.{ℕ, zero, suc, _+_, _*_, _-_, _/_, _%_, _^_, _≤_, _<_}
 use native.Mathlib.Nat.{mod-one, mod-eq-of-lt, mul-comm, pow-suc, mul-add-div-right, mul-add-mod-self-right}
 use native.Mathlib.Omega.{arith}
