@@ -1,3 +1,5 @@
 -- Demand 3: what arrives is what was sent. Run has the statement, Laws the proof.
 pub mod Run
+pub mod Wire
+pub mod Witness
 pub mod Laws

@@ -1,13 +1,15 @@
 -- A run of two ends and a channel, its premises, and what is then always so (demand 3). Definitions only; `delivered` of Laws.Theorem is the theorem.
--- Everything here is over the definitions that the promises of `sent`, `recv` and `packet` use, so it holds of their code.
+-- Everything here is over the definitions that the promises of `sent` and `recv` use, so it holds of their code.
 use Prim.Native.Nat.{ℕ, _+_, _-_, _^_, _≤_, _<_}
 use mathlib.Core.Bool.{Bool, true, false, _&&_, not, cond}
 use mathlib.Core.List.{List, [], _∷_, _++_, map}
+use mathlib.Core.Option.{Option, none, some}
 use mathlib.Core.Path.{_≡_}
 use mathlib.Core.Logic.{_⊎_}
 use lib.Dec.{leb}
 use lib.ListN.{length, take, getD, replicate}
 use Rattle.common.specs.Answer.{Answer, done, refused}
+use Rattle.seq.specs.Seq.{offsetOf}
 use Rattle.seq.specs.declared.SeqNum.{SeqNum}
 use Rattle.packet.specs.declared.kind.PacketType.{PacketType}
 use Rattle.congestion.specs.declared.settings.Settings.{Settings}
@@ -20,9 +22,8 @@ use Rattle.recv.specs.declared.ReceiveBuffer.{ReceiveBuffer}
 use Rattle.recv.specs.declared.Creation.the-variants.{Made}
 use Rattle.recv.specs.declared.Count.the-variants.{Is as is-count}
 use Rattle.recv.specs.declared.Number.the-variants.{Is as is-number}
-use Rattle.recv.specs.State.{tableOf, createdOf, numberedOf, ackOf}
-use Rattle.recv.specs.Table.{thereOf}
-use Rattle.recv.specs.Calls.{ackedOf, ackedRoomOf}
+use Rattle.recv.specs.State.{createdOf, numberedOf, ackOf}
+use Rattle.recv.specs.Calls.{receiverOf, ackedOf, ackedRoomOf}
 use Rattle.recv.specs.Runs as Recv
 
 -- ---- what goes between the ends
@@ -36,16 +37,33 @@ pub record Acknowledgement : Type 0 where
   pub number : SeqNum
   pub mask : List ℕ
 
--- ---- what happens: a call at an end, on the state (and the buffer) that it is made with, or a datagram that goes out
+-- ---- what happens: a call at an end, on the state (and the buffer) that it is made with, or a datagram goes out
+
+-- A transmit as the sender asks for it, beside the payload that it stands for.
+pub record Transmit : Type 0 where
+  pub number : SeqNum
+  pub type : PacketType
+  pub tag : ℕ
+  pub len : ℕ
+  pub clock : ℕ
+  pub payload : List ℕ
+
+-- An ack is heard with a delay, at a time.
+pub data SenderCall : Type 0 where
+  transmit : Transmit → SenderCall
+  hear : Acknowledgement → ℕ → ℕ → SenderCall
+  time-out : SenderCall
+
+-- A datagram is written; bytes are read into a room; an acknowledgement is built, its SACK in a room.
+pub data ReceiverCall : Type 0 where
+  write : Datagram → ReceiverCall
+  read : List ℕ → ReceiverCall
+  build : List ℕ → ReceiverCall
 
 pub data Event : Type 0 where
-  transmits : SentPackets → SeqNum → PacketType → ℕ → ℕ → ℕ → List ℕ → Event
+  at-sender : SentPackets → SenderCall → Event
+  at-receiver : ReceiveBuffer → List ℕ → ReceiverCall → Event
   goes-out : Datagram → Event
-  arrives : ReceiveBuffer → List ℕ → Datagram → Event
-  reads : ReceiveBuffer → List ℕ → List ℕ → Event
-  builds : ReceiveBuffer → List ℕ → Event
-  hears : SentPackets → Acknowledgement → ℕ → ℕ → Event
-  times-out : SentPackets → Event
 
 -- The two ends at the start, and the receiver's buffer.
 pub record Start : Type 0 where
@@ -53,31 +71,32 @@ pub record Start : Type 0 where
   pub receiver : ReceiveBuffer
   pub buffer : List ℕ
 
+-- What a call leaves of the sender.
+abbrev pub senderLeft : SentPackets → SenderCall → SentPackets
+senderLeft s (transmit x) = transmitAnswer s (x .number) (x .type) (x .tag) (x .len) (x .clock) .1
+senderLeft s (hear a delay clock) = ackAnswer s (a .number) (a .mask) delay clock .1
+senderLeft s time-out = timeoutAnswer s .1
+
+-- What a call leaves of the receiver and its buffer, with what was stored and what was read so far. To build an acknowledgement changes nothing.
+abbrev pub receiverLeft : Recv.Run → ReceiverCall → Recv.Run
+receiverLeft r (write d) = Recv.stepOf r (Recv.write (d .number) (d .payload))
+receiverLeft r (read out) = Recv.stepOf r (Recv.read out)
+receiverLeft r (build room) = r
+
 -- A run is a list of events, the newest first. What the sender's last call left:
 unfoldable pub senderAfter : Start → List Event → SentPackets
 senderAfter b [] = b .sender
-senderAfter b (transmits s number type tag len clock payload ∷ earlier) = transmitAnswer s number type tag len clock .1
-senderAfter b (hears s a delay clock ∷ earlier) = ackAnswer s (a .number) (a .mask) delay clock .1
-senderAfter b (times-out s ∷ earlier) = timeoutAnswer s .1
-senderAfter b (goes-out d ∷ earlier) = senderAfter b earlier
-senderAfter b (arrives s buf d ∷ earlier) = senderAfter b earlier
-senderAfter b (reads s buf out ∷ earlier) = senderAfter b earlier
-senderAfter b (builds s room ∷ earlier) = senderAfter b earlier
+senderAfter b (at-sender s call ∷ before) = senderLeft s call
+senderAfter b (at-receiver s buf call ∷ before) = senderAfter b before
+senderAfter b (goes-out d ∷ before) = senderAfter b before
 
--- The same call of the receiver on another state and buffer, with what was stored and read before.
-abbrev pub on : ReceiveBuffer → List ℕ → Recv.Run → Recv.Run
-on s buf r = record { state = s; bytes = buf; stored = r .stored; read = r .read }
-
--- What the receiver's last call left: its state, its buffer, what was stored and all that was read.
+-- What the receiver's last call left.
 unfoldable pub receiverAfter : Start → List Event → Recv.Run
 receiverAfter b [] = record { state = b .receiver; bytes = b .buffer; stored = []; read = [] }
-receiverAfter b (arrives s buf d ∷ earlier) = Recv.stepOf (on s buf (receiverAfter b earlier)) (Recv.write (d .number) (d .payload))
-receiverAfter b (reads s buf out ∷ earlier) = Recv.stepOf (on s buf (receiverAfter b earlier)) (Recv.read out)
-receiverAfter b (transmits s number type tag len clock payload ∷ earlier) = receiverAfter b earlier
-receiverAfter b (goes-out d ∷ earlier) = receiverAfter b earlier
-receiverAfter b (builds s room ∷ earlier) = receiverAfter b earlier
-receiverAfter b (hears s a delay clock ∷ earlier) = receiverAfter b earlier
-receiverAfter b (times-out s ∷ earlier) = receiverAfter b earlier
+receiverAfter b (at-receiver s buf call ∷ before) =
+    receiverLeft (record { state = s; bytes = buf; stored = receiverAfter b before .stored; read = receiverAfter b before .read }) call
+receiverAfter b (at-sender s call ∷ before) = receiverAfter b before
+receiverAfter b (goes-out d ∷ before) = receiverAfter b before
 
 -- ---- accepted transmits, and the payloads that were sent
 
@@ -85,66 +104,52 @@ abbrev pub isDone : {A : Type 0} → Answer A → Bool
 isDone (done a) = true
 isDone (refused n) = false
 
-abbrev pub accepted : SentPackets → SeqNum → PacketType → ℕ → ℕ → ℕ → Bool
-accepted s number type tag len clock = isDone (transmitAnswer s number type tag len clock .0)
+abbrev pub accepted : SentPackets → Transmit → Bool
+accepted s x = isDone (transmitAnswer s (x .number) (x .type) (x .tag) (x .len) (x .clock) .0)
 
 -- A first transmit: its number is past all that were sent; else it is a retransmission.
-abbrev pub isFirst : SentPackets → SeqNum → Bool
-isFirst s number = not (leb (offsetIn (trackerOf s) number) (trackerOf s .sent))
+abbrev pub isFirst : SentPackets → Transmit → Bool
+isFirst s x = not (leb (offsetIn (trackerOf s) (x .number)) (trackerOf s .sent))
+
+abbrev pub payloadsWith : List (List ℕ) → SentPackets → SenderCall → List (List ℕ)
+payloadsWith ps s (transmit x) = cond (accepted s x && isFirst s x) (ps ++ x .payload ∷ []) ps
+payloadsWith ps s (hear a delay clock) = ps
+payloadsWith ps s time-out = ps
 
 -- The payloads first sent, in the order of their offsets.
 unfoldable pub payloads : List Event → List (List ℕ)
 payloads [] = []
-payloads (transmits s number type tag len clock payload ∷ earlier) =
-    cond (accepted s number type tag len clock && isFirst s number) (payloads earlier ++ payload ∷ []) (payloads earlier)
-payloads (goes-out d ∷ earlier) = payloads earlier
-payloads (arrives s buf d ∷ earlier) = payloads earlier
-payloads (reads s buf out ∷ earlier) = payloads earlier
-payloads (builds s room ∷ earlier) = payloads earlier
-payloads (hears s a delay clock ∷ earlier) = payloads earlier
-payloads (times-out s ∷ earlier) = payloads earlier
+payloads (at-sender s call ∷ before) = payloadsWith (payloads before) s call
+payloads (at-receiver s buf call ∷ before) = payloads before
+payloads (goes-out d ∷ before) = payloads before
 
--- ---- the premises, each of an event and what happened earlier
+-- ---- what happened in a run
 
--- Some earlier event is so.
-unfoldable pub Earlier : (Event → Type 0) → List Event → Type 0
-Earlier P [] = ⊥
-Earlier P (e ∷ earlier) = P e ⊎ Earlier P earlier
+-- The event happens in the run, with these before it.
+unfoldable pub Happens : Event → List Event → List Event → Type 0
+Happens e before [] = ⊥
+Happens e before (x ∷ run) = ((x ≡ e) × (run ≡ before)) ⊎ Happens e before run
 
--- It holds of every event of a run and what happened before that.
-unfoldable pub Everywhere : (Event → List Event → Type 0) → List Event → Type 0
-Everywhere P [] = Unit {0}
-Everywhere P (e ∷ earlier) = P e earlier × Everywhere P earlier
+-- The event is one of the run's.
+unfoldable pub Happened : Event → List Event → Type 0
+Happened e [] = ⊥
+Happened e (x ∷ run) = (x ≡ e) ⊎ Happened e run
 
--- this datagram goes out
-abbrev pub Out : Datagram → Event → Type 0
-Out d (goes-out x) = x ≡ d
-Out d (transmits s number type tag len clock payload) = ⊥
-Out d (arrives s buf x) = ⊥
-Out d (reads s buf out) = ⊥
-Out d (builds s room) = ⊥
-Out d (hears s a delay clock) = ⊥
-Out d (times-out s) = ⊥
+abbrev pub carried : Transmit → Datagram
+carried x = record { number = x .number; payload = x .payload }
 
--- an accepted transmit of this number with this payload; an accepted first transmit
-abbrev pub Sent : Datagram → Event → Type 0
-Sent d (transmits s number type tag len clock payload) = (accepted s number type tag len clock ≡ true) × (number ≡ d .number) × (payload ≡ d .payload)
-Sent d (goes-out x) = ⊥
-Sent d (arrives s buf x) = ⊥
-Sent d (reads s buf out) = ⊥
-Sent d (builds s room) = ⊥
-Sent d (hears s a delay clock) = ⊥
-Sent d (times-out s) = ⊥
+-- A transmit of this datagram was accepted.
+pub record Sent (d : Datagram) (run : List Event) : Type 0 where
+  pub sender : SentPackets
+  pub asked : Transmit
+  pub happened : Happened (at-sender sender (transmit asked)) run
+  pub is-accepted : accepted sender asked ≡ true
+  pub carries : carried asked ≡ d
 
-abbrev pub FirstSent : Datagram → Event → Type 0
-FirstSent d (transmits s number type tag len clock payload) =
-    (accepted s number type tag len clock ≡ true) × (isFirst s number ≡ true) × (number ≡ d .number) × (payload ≡ d .payload)
-FirstSent d (goes-out x) = ⊥
-FirstSent d (arrives s buf x) = ⊥
-FirstSent d (reads s buf out) = ⊥
-FirstSent d (builds s room) = ⊥
-FirstSent d (hears s a delay clock) = ⊥
-FirstSent d (times-out s) = ⊥
+-- It was a first one.
+pub record FirstSent (d : Datagram) (run : List Event) : Type 0 where
+  pub sent : Sent d run
+  pub is-first : isFirst (sent .sender) (sent .asked) ≡ true
 
 -- The receiver's calls on this state and this room answer this number and these bytes.
 pub record Answers (s : ReceiveBuffer) (room : List ℕ) (a : Acknowledgement) : Type 0 where
@@ -153,83 +158,74 @@ pub record Answers (s : ReceiveBuffer) (room : List ℕ) (a : Acknowledgement) :
   pub size-told : ackedOf s (length room) ≡ is-count size
   pub bytes-told : take size (ackedRoomOf s room) ≡ a .mask
 
--- this acknowledgement is built
-abbrev pub Built : Acknowledgement → Event → Type 0
-Built a (builds s room) = Answers s room a
-Built a (transmits s number type tag len clock payload) = ⊥
-Built a (goes-out d) = ⊥
-Built a (arrives s buf d) = ⊥
-Built a (reads s buf out) = ⊥
-Built a (hears s x delay clock) = ⊥
-Built a (times-out s) = ⊥
+-- This acknowledgement was built, number and SACK at one moment.
+pub record Built (a : Acknowledgement) (run : List Event) : Type 0 where
+  pub receiver : ReceiveBuffer
+  pub buffer : List ℕ
+  pub room : List ℕ
+  pub happened : Happened (at-receiver receiver buffer (build room)) run
+  pub answers : Answers receiver room a
 
-abbrev pub Channel : Event → List Event → Type 0
-Channel (arrives s buf d) earlier = Earlier (Out d) earlier
-Channel (transmits s number type tag len clock payload) earlier = Unit {0}
-Channel (goes-out d) earlier = Unit {0}
-Channel (reads s buf out) earlier = Unit {0}
-Channel (builds s room) earlier = Unit {0}
-Channel (hears s a delay clock) earlier = Unit {0}
-Channel (times-out s) earlier = Unit {0}
+-- ---- the premises
 
-abbrev pub SamePayload : Event → List Event → Type 0
-SamePayload (transmits s number type tag len clock payload) earlier =
-    accepted s number type tag len clock ≡ true → isFirst s number ≡ false → Earlier (FirstSent (record { number = number; payload = payload })) earlier
-SamePayload (goes-out d) earlier = Unit {0}
-SamePayload (arrives s buf d) earlier = Unit {0}
-SamePayload (reads s buf out) earlier = Unit {0}
-SamePayload (builds s room) earlier = Unit {0}
-SamePayload (hears s a delay clock) earlier = Unit {0}
-SamePayload (times-out s) earlier = Unit {0}
+-- A sender made with this initial number, and a receiver made with it, for a buffer of any length.
+pub record FreshSender (initial : SeqNum) (s : SentPackets) : Type 0 where
+  pub settings : Settings
+  pub made : newAnswer initial settings ≡ (done tt, s)
 
-abbrev pub OnlyAccepted : Event → List Event → Type 0
-OnlyAccepted (goes-out d) earlier = Earlier (Sent d) earlier
-OnlyAccepted (transmits s number type tag len clock payload) earlier = Unit {0}
-OnlyAccepted (arrives s buf d) earlier = Unit {0}
-OnlyAccepted (reads s buf out) earlier = Unit {0}
-OnlyAccepted (builds s room) earlier = Unit {0}
-OnlyAccepted (hears s a delay clock) earlier = Unit {0}
-OnlyAccepted (times-out s) earlier = Unit {0}
+pub record FreshReceiver (initial : SeqNum) (s : ReceiveBuffer) : Type 0 where
+  pub size : ℕ
+  pub made : createdOf initial size ≡ record { answer = Made; state = s }
 
-abbrev pub BuiltEarlier : Event → List Event → Type 0
-BuiltEarlier (hears s a delay clock) earlier = Earlier (Built a) earlier
-BuiltEarlier (transmits s number type tag len clock payload) earlier = Unit {0}
-BuiltEarlier (goes-out d) earlier = Unit {0}
-BuiltEarlier (arrives s buf d) earlier = Unit {0}
-BuiltEarlier (reads s buf out) earlier = Unit {0}
-BuiltEarlier (builds s room) earlier = Unit {0}
-BuiltEarlier (times-out s) earlier = Unit {0}
-
-abbrev pub GoesOn : Start → Event → List Event → Type 0
-GoesOn b (transmits s number type tag len clock payload) earlier = s ≡ senderAfter b earlier
-GoesOn b (hears s a delay clock) earlier = s ≡ senderAfter b earlier
-GoesOn b (times-out s) earlier = s ≡ senderAfter b earlier
-GoesOn b (arrives s buf d) earlier = (s ≡ receiverAfter b earlier .state) × (buf ≡ receiverAfter b earlier .bytes)
-GoesOn b (reads s buf out) earlier = (s ≡ receiverAfter b earlier .state) × (buf ≡ receiverAfter b earlier .bytes)
-GoesOn b (builds s room) earlier = s ≡ receiverAfter b earlier .state
-GoesOn b (goes-out d) earlier = Unit {0}
-
--- Both constructors are done, with one initial number (a `u16`).
+-- The initial number is a `u16`.
 pub record Fresh (b : Start) : Type 0 where
   pub initial : SeqNum
   pub fits : initial .0 < 2 ^ 16
-  pub settings : Settings
-  pub tracker : newAnswer initial settings ≡ (done tt, b .sender)
-  pub receiver : createdOf initial (length (b .buffer)) ≡ record { answer = Made; state = b .receiver }
+  pub sender : FreshSender initial (b .sender)
+  pub receiver : FreshReceiver initial (b .receiver)
+
+abbrev pub Channel : List Event → Type 0
+Channel run =
+    (s : ReceiveBuffer) (buf : List ℕ) (d : Datagram) (before : List Event) → Happens (at-receiver s buf (write d)) before run → Happened (goes-out d) before
+
+abbrev pub SamePayload : List Event → Type 0
+SamePayload run =
+    (s : SentPackets) (x : Transmit) (before : List Event) → Happens (at-sender s (transmit x)) before run
+    → accepted s x ≡ true → isFirst s x ≡ false → FirstSent (carried x) before
+
+abbrev pub OnlyAccepted : List Event → Type 0
+OnlyAccepted run = (d : Datagram) (before : List Event) → Happens (goes-out d) before run → Sent d before
+
+abbrev pub BuiltEarlier : List Event → Type 0
+BuiltEarlier run =
+    (s : SentPackets) (a : Acknowledgement) (delay clock : ℕ) (before : List Event) → Happens (at-sender s (hear a delay clock)) before run → Built a before
+
+abbrev pub SenderGoesOn : Start → List Event → Type 0
+SenderGoesOn b run = (s : SentPackets) (call : SenderCall) (before : List Event) → Happens (at-sender s call) before run → s ≡ senderAfter b before
+
+abbrev pub ReceiverGoesOn : Start → List Event → Type 0
+ReceiverGoesOn b run =
+    (s : ReceiveBuffer) (buf : List ℕ) (call : ReceiverCall) (before : List Event) → Happens (at-receiver s buf call) before run → s ≡ receiverAfter b before .state
+
+abbrev pub BufferGoesOn : Start → List Event → Type 0
+BufferGoesOn b run =
+    (s : ReceiveBuffer) (buf : List ℕ) (call : ReceiverCall) (before : List Event) → Happens (at-receiver s buf call) before run → buf ≡ receiverAfter b before .bytes
 
 pub record Premises (b : Start) (run : List Event) : Type 0 where
   -- Two fresh ends, a tracker and a receiver, share an initial number.
   pub fresh : Fresh b
   -- A channel between them may lose, repeat, delay or reorder datagrams; it alters and invents none.
-  pub channel : Everywhere Channel run
+  pub channel : Channel run
   -- A retransmission carries the payload first sent under its number.
-  pub retransmission : Everywhere SamePayload run
+  pub retransmission : SamePayload run
   -- Only accepted transmits go out.
-  pub only-accepted : Everywhere OnlyAccepted run
+  pub only-accepted : OnlyAccepted run
   -- Every acknowledgement the sender hears was built by that receiver earlier in the run, number and SACK at one moment.
-  pub built : Everywhere BuiltEarlier run
+  pub built : BuiltEarlier run
   -- Each end goes on from the state and buffer its own last call left, and nobody else touches them.
-  pub goes-on : Everywhere (GoesOn b) run
+  pub sender-goes-on : SenderGoesOn b run
+  pub receiver-goes-on : ReceiverGoesOn b run
+  pub buffer-goes-on : BufferGoesOn b run
 
 -- ---- what is then always so
 
@@ -245,20 +241,25 @@ marksOf t = replicate (goneOf t) true ++ map (λ (p : Packet). not (isUnacked p)
 abbrev pub heldAcked : Tracker → ℕ → Bool
 heldAcked t o = getD (marksOf t) (o - 1) false
 
--- The receiver has stored offset o: it is in order, or it waits.
-abbrev pub hasStored : ReceiveBuffer → ℕ → Bool
-hasStored s o = thereOf (s .count) (tableOf s) o
+-- Bytes read plus bytes ready.
+abbrev pub streamOf : Recv.Run → List ℕ
+streamOf r = r .read ++ receiverOf (r .state) (r .bytes) .ready
+
+-- The receiver has stored this payload under offset o: it was put in order, or it waits.
+pub data Stored (r : Recv.Run) (o : ℕ) (payload : List ℕ) : Type 0 where
+  in-order : o ≤ r .state .count → Recv.firstStored (r .stored) o ≡ some payload → Stored r o payload
+  waiting : r .state .count < o → getD (receiverOf (r .state) (r .bytes) .waiting) (o - r .state .count - 1) none ≡ some payload → Stored r o payload
+
+-- The sender holds all that was sent as acknowledged.
+abbrev pub AllAcked : Tracker → Type 0
+AllAcked t = (o : ℕ) → 1 ≤ o → o ≤ t .sent → heldAcked t o ≡ true
 
 pub record Delivered (b : Start) (run : List Event) : Type 0 where
   -- bytes read plus bytes ready are exactly the first k payloads in order, k being the receiver's in-order count;
-  pub in-order :
-      receiverAfter b run .read ++ take (receiverAfter b run .state .ready) (receiverAfter b run .bytes)
-      ≡ joinedAll (take (receiverAfter b run .state .count) (payloads run))
+  pub first-k : streamOf (receiverAfter b run) ≡ joinedAll (take (receiverAfter b run .state .count) (payloads run))
   pub among-sent : receiverAfter b run .state .count ≤ length (payloads run)
-  -- whatever the sender holds as acknowledged, the receiver has stored (it is in order, or it waits);
+  -- whatever the sender holds as acknowledged, the receiver has stored, and it is what was first sent under that offset;
   pub acknowledged-stored :
-      (o : ℕ) → 1 ≤ o → o ≤ trackerOf (senderAfter b run) .sent → heldAcked (trackerOf (senderAfter b run)) o ≡ true → hasStored (receiverAfter b run .state) o ≡ true
+      (o : ℕ) → 1 ≤ o → heldAcked (trackerOf (senderAfter b run)) o ≡ true → Stored (receiverAfter b run) o (getD (payloads run) (o - 1) [])
   -- when nothing sent is unacknowledged, the receiver's stream is all that was sent.
-  pub all-arrived :
-      ((o : ℕ) → 1 ≤ o → o ≤ trackerOf (senderAfter b run) .sent → heldAcked (trackerOf (senderAfter b run)) o ≡ true)
-      → receiverAfter b run .read ++ take (receiverAfter b run .state .ready) (receiverAfter b run .bytes) ≡ joinedAll (payloads run)
+  pub all-arrived : AllAcked (trackerOf (senderAfter b run)) → streamOf (receiverAfter b run) ≡ joinedAll (payloads run)

@@ -20,7 +20,7 @@ use Rattle.outgoing.specs.Ack.{delayAnswer, mayAck, ackCheck, markedOf, ackOf}
 use Rattle.outgoing.specs.Sound.{timeoutOf}
 use Rattle.sent.specs.State.{trackerOf, writtenOf, stateSoundOf, answeredOf, answeredAs, transmitAnswer, ackStateOf, ackAnswer, timeoutAnswer}
 use Rattle.packet.specs.Sack.{maskAnswer}
-use Rattle.delivery.specs.Run.{isDone, accepted}
+use Rattle.delivery.specs.Run.{Transmit, isDone, accepted}
 use Rattle.delivery.specs.Laws.Marks.{ackedByOf}
 
 pub tracker-written : (s : SentPackets) (t : Tracker) → trackerOf (writtenOf s t) ≡ t
@@ -60,26 +60,26 @@ both true false e = let z : _≡_ {A = ℕ} 0 1 = cc in absurd (omega arith)
 both false b e = let z : _≡_ {A = ℕ} 0 1 = cc in absurd (omega arith)
 
 pub transmit-accepted :
-    (s : SentPackets) (number : SeqNum) (type : PacketType) (tag len clock : ℕ) → accepted s number type tag len clock ≡ true
-    → (trackerOf (transmitAnswer s number type tag len clock .1)
-    ≡ clockedOf (sentOf (trackerOf s) (offsetIn (trackerOf s) number) (firstSent type tag len clock)) clock)
-    × (1 ≤ offsetIn (trackerOf s) number)
-    × (offsetIn (trackerOf s) number ≤ trackerOf s .sent + 1)
+    (s : SentPackets) (x : Transmit) → accepted s x ≡ true
+    → (trackerOf (transmitAnswer s (x .number) (x .type) (x .tag) (x .len) (x .clock) .1)
+    ≡ clockedOf (sentOf (trackerOf s) (offsetIn (trackerOf s) (x .number)) (firstSent (x .type) (x .tag) (x .len) (x .clock))) (x .clock))
+    × (1 ≤ offsetIn (trackerOf s) (x .number))
+    × (offsetIn (trackerOf s) (x .number) ≤ trackerOf s .sent + 1)
 unfolding transmitAnswer transmitOf transmitCheck
-transmit-accepted s number type tag len clock e =
+transmit-accepted s x e =
     let t = trackerOf s in
-    let o = offsetIn t number in
-    let check = transmitCheck (t .numbers) (t .sent) (length (t .packets)) o len clock in
-    let told = call-accepted s (stateSoundOf s) check (clockedOf (sentOf t o (firstSent type tag len clock)) clock) e in
-    let may = both (leb 1 o) (leb o (t .sent + 1)) (checked (clockAnswer (t .numbers .last) clock) (cond (leb o (t .sent)) (done tt) (roomAnswer (t .numbers) (t .sent) (length (t .packets)) len)) (mayTransmit (t .sent) o) (told .1)) in
+    let o = offsetIn t (x .number) in
+    let check = transmitCheck (t .numbers) (t .sent) (length (t .packets)) o (x .len) (x .clock) in
+    let told = call-accepted s (stateSoundOf s) check (clockedOf (sentOf t o (firstSent (x .type) (x .tag) (x .len) (x .clock))) (x .clock)) e in
+    let may = both (leb 1 o) (leb o (t .sent + 1)) (checked (clockAnswer (t .numbers .last) (x .clock)) (cond (leb o (t .sent)) (done tt) (roomAnswer (t .numbers) (t .sent) (length (t .packets)) (x .len))) (mayTransmit (t .sent) o) (told .1)) in
     (told .0, leb-true _ _ (may .0), leb-true _ _ (may .1))
 
-pub transmit-refused : (s : SentPackets) (number : SeqNum) (type : PacketType) (tag len clock : ℕ) → accepted s number type tag len clock ≡ false → transmitAnswer s number type tag len clock .1 ≡ s
+pub transmit-refused : (s : SentPackets) (x : Transmit) → accepted s x ≡ false → transmitAnswer s (x .number) (x .type) (x .tag) (x .len) (x .clock) .1 ≡ s
 unfolding transmitAnswer transmitOf
-transmit-refused s number type tag len clock e =
+transmit-refused s x e =
     call-refused s (stateSoundOf s)
-    (transmitCheck (trackerOf s .numbers) (trackerOf s .sent) (length (trackerOf s .packets)) (offsetIn (trackerOf s) number) len clock)
-    (clockedOf (sentOf (trackerOf s) (offsetIn (trackerOf s) number) (firstSent type tag len clock)) clock)
+    (transmitCheck (trackerOf s .numbers) (trackerOf s .sent) (length (trackerOf s .packets)) (offsetIn (trackerOf s) (x .number)) (x .len) (x .clock))
+    (clockedOf (sentOf (trackerOf s) (offsetIn (trackerOf s) (x .number)) (firstSent (x .type) (x .tag) (x .len) (x .clock))) (x .clock))
     e
 
 -- ---- ack

@@ -2,13 +2,14 @@
 use Prim.Native.Nat.{ℕ, zero, suc, _+_, _-_, _^_, _≤_, _<_}
 use native.Mathlib.Omega.{arith}
 use mathlib.Core.Bool.{Bool, true, false, _&&_, _||_, cond}
-use mathlib.Core.List.{List, [], _∷_}
+use mathlib.Core.List.{List, [], _∷_, append-nil}
+use mathlib.Core.Logic.{_⊎_, inl, inr}
 use mathlib.Core.Option.{Option, none, some}
-use mathlib.Core.Path.{_≡_, _∙_, refl, ap, sym}
+use mathlib.Core.Path.{_≡_, _∙_, refl, ap, sym, subst}
 use lib.Dec.{leb, ltb, eqb}
 use lib.ListN.{length, take, drop, getD}
 use lib.Seq.{take-append-seam}
-use borrow.Author.Tests.{leb-false, lt-ltb, eqb-true}
+use borrow.Author.Tests.{leb-true, leb-false, eqb-true}
 use Rattle.seq.specs.Seq.{offsetOf}
 use Rattle.packet.specs.Sack.{bitOf}
 use Rattle.seq.specs.Laws.{offset-of-plus}
@@ -20,16 +21,16 @@ use Rattle.recv.specs.declared.Refusal.the-variants.{NotSound, NoRoom}
 use Rattle.recv.specs.declared.Taken.{Taken}
 use Rattle.recv.specs.declared.Writing.{Writing}
 use Rattle.recv.specs.declared.Writing.the-variants.{Stored, AlreadyThere, Refused}
-use Rattle.recv.specs.Table.{waits, thereOf, sackOf}
+use Rattle.recv.specs.Table.{waits, sackOf}
 use Rattle.recv.specs.State.{tableOf, soundOf, ackOf}
 use Rattle.recv.specs.Receiver.{changed, storedOf, readOf}
 use Rattle.recv.specs.Calls.{payloadsOf, receiverOf, over, writtenOf, takenOf, answerOf, stateOf, readyFor}
-use Rattle.recv.specs.Runs.{Entry, Run, firstStored, orElse}
+use Rattle.recv.specs.Runs.{Call, write, read, Entry, Run, firstStored, orElse, stepOf}
 use Rattle.recv.specs.Laws.State.{sound-facts}
 use Rattle.recv.specs.Laws.Sack.{bit-means}
 use Rattle.recv.specs.Laws.Runs as RecvLaws
 use Rattle.recv.specs.Laws.Payloads as RecvPayloads
-use Rattle.delivery.specs.Run.{Acknowledgement, Answers, hasStored}
+use Rattle.delivery.specs.Run.{Acknowledgement, Answers, Stored as Has, in-order, waiting}
 use Rattle.delivery.specs.Laws.Marks.{Speaks, itself, bit, before}
 
 -- Something was stored under the offset.
@@ -74,14 +75,12 @@ waits-some (suc n ∷ t) bytes zero h e = let z : _≡_ {A = ℕ} 0 1 = cc in om
 waits-some (zero ∷ t) bytes (suc i) h e = waits-some t bytes i h e
 waits-some (suc n ∷ t) bytes (suc i) h e = waits-some t (drop n bytes) i h e
 
-some-waits : (t bytes : List ℕ) (i : ℕ) → (getD (payloadsOf t bytes) i none ≡ none → ⊥) → waits (getD t i 0) ≡ true
-some-waits [] bytes i h = absurd (h refl)
-some-waits (zero ∷ t) bytes zero h = absurd (h refl)
-some-waits (suc n ∷ t) bytes zero h = refl
-some-waits (zero ∷ t) bytes (suc i) h = some-waits t bytes i h
-some-waits (suc n ∷ t) bytes (suc i) h = some-waits t (drop n bytes) i h
+-- A sound receiver whose buffer holds what was stored.
+pub record Well (r : Run) : Type 0 where
+  pub sound : soundOf (r .state) ≡ true
+  pub kept : RecvLaws.Kept (receiverOf (r .state) (r .bytes)) (r .stored) (r .read)
 
-module _ (r : Run) (good : RecvLaws.Delivered r) where
+module _ (r : Run) (good : Well r) where
   abbrev c : ℕ
   c = r .state .count
 
@@ -96,20 +95,16 @@ module _ (r : Run) (good : RecvLaws.Delivered r) where
   waiting-stored : (i : ℕ) → waits (getD table i 0) ≡ true → IsStored (r .stored) (c + i + 1)
   waiting-stored i w e = waits-some table (drop (r .state .ready) (r .bytes)) i w (good .kept .waiting i ∙ e)
 
-  pub stored-there : (o : ℕ) → IsStored (r .stored) o → hasStored (r .state) o ≡ true
-  unfolding thereOf
-  stored-there o h = by-order (leb o c) refl
+  -- What was stored under an offset was put in order, or waits.
+  pub has-stored : (o : ℕ) (p : List ℕ) → firstStored (r .stored) o ≡ some p → Has r o p
+  has-stored o p h = by-order (leb o c) refl
     where
-      i : ℕ
-      i = o - (c + 1)
-
-      by-order : (b : Bool) → leb o c ≡ b → (b || (ltb c o && waits (getD table i 0))) ≡ true
-      by-order true e = refl
+      by-order : (b : Bool) → leb o c ≡ b → Has r o p
+      by-order true e = in-order (leb-true o c e) h
       by-order false e =
           let past : c < o = leb-false o c e in
-          let place : c + i + 1 ≡ o = omega arith in
-          let there = some-waits table (drop (r .state .ready) (r .bytes)) i (λ n. h (ap (firstStored (r .stored)) (sym place) ∙ (sym (good .kept .waiting i) ∙ n))) in
-          simp (lt-ltb c o past, there)
+          let place : c + (o - c - 1) + 1 ≡ o = omega arith in
+          waiting past (good .kept .waiting (o - c - 1) ∙ (ap (firstStored (r .stored)) place ∙ h))
 
   -- The offset next in order is not stored.
   pub next-missing : firstStored (r .stored) (c + 1) ≡ none
@@ -150,13 +145,13 @@ module _ (r : Run) (good : RecvLaws.Delivered r) where
     pub speaks-stored : (x : ℕ) → 1 ≤ x → Speaks c (a .mask) x → IsStored (r .stored) x
     speaks-stored x above (itself e) = in-order-stored x above (omega arith)
     speaks-stored x above (before least less) = in-order-stored x above (omega arith)
-    speaks-stored x above (bit i set e) = λ n. waiting-stored (i + 1) waiting (ap (firstStored (r .stored)) place ∙ n)
+    speaks-stored x above (bit i set e) = λ n. waiting-stored (i + 1) it-waits (ap (firstStored (r .stored)) place ∙ n)
       where
         place : c + (i + 1) + 1 ≡ x
         place = omega arith
 
-        waiting : waits (getD table (i + 1) 0) ≡ true
-        waiting = by-past (ltb c (c + 2 + i)) (sym (bit-means c table i) ∙ (ap (λ (m : List ℕ). bitOf m i) (sym mask-is-sack) ∙ set))
+        it-waits : waits (getD table (i + 1) 0) ≡ true
+        it-waits = by-past (ltb c (c + 2 + i)) (sym (bit-means c table i) ∙ (ap (λ (m : List ℕ). bitOf m i) (sym mask-is-sack) ∙ set))
           where
             index : c + 2 + i - (c + 1) ≡ i + 1
             index = omega arith
@@ -164,6 +159,29 @@ module _ (r : Run) (good : RecvLaws.Delivered r) where
             by-past : (b : Bool) → (b && waits (getD table (c + 2 + i - (c + 1)) 0)) ≡ true → waits (getD table (i + 1) 0) ≡ true
             by-past true f = ap (λ (k : ℕ). waits (getD table k 0)) (sym index) ∙ f
             by-past false f = let z : _≡_ {A = ℕ} 0 1 = cc in absurd (omega arith)
+
+-- ---- over calls
+
+-- A receiver goes on well, and its buffer has the length named at the start; or it has another length.
+pub record Receives (r : Run) : Type 0 where
+  pub well : Well r
+  pub lengths : RecvLaws.Delivered r ⊎ (eqb (length (r .bytes)) (r .state .length) ≡ false)
+
+pub receives-well : (r : Run) → RecvLaws.Delivered r → Receives r
+receives-well r good = record { well = record { sound = good .sound; kept = good .kept }; lengths = inl good }
+
+-- With another length every call is refused with 18, and leaves all as it was.
+other-stays : (r : Run) → soundOf (r .state) ≡ true → eqb (length (r .bytes)) (r .state .length) ≡ false → (c : Call) → stepOf r c ≡ r
+unfolding answerOf
+other-stays r sound other (write number payload) = simp (sound, other)
+other-stays r sound other (read out) = simp (sound, other, append-nil)
+
+pub receives-step : (r : Run) → Receives r → (c : Call) → Receives (stepOf r c)
+receives-step r good c = by-length (good .lengths)
+  where
+    by-length : RecvLaws.Delivered r ⊎ (eqb (length (r .bytes)) (r .state .length) ≡ false) → Receives (stepOf r c)
+    by-length (inl same) = receives-well (stepOf r c) (RecvLaws.step-well r same c)
+    by-length (inr other) = subst Receives (sym (other-stays r (good .well .sound) other c)) good
 
 -- ---- the initial number stays
 
