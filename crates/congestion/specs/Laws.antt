@@ -3,4 +3,5 @@ pub mod Trip
 pub mod Window
 pub mod Numbers
 pub mod Hold
+pub mod Whole
 pub mod Rust
