@@ -8,3 +8,4 @@ pub mod Kept
 pub mod Witness
 pub mod Needed
 pub mod Wire
+pub mod WireWitness

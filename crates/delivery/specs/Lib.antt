@@ -2,4 +2,5 @@
 pub mod Run
 pub mod Wire
 pub mod Witness
+pub mod WireWitness
 pub mod Laws

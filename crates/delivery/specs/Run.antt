@@ -126,12 +126,12 @@ payloads (goes-out d ∷ before) = payloads before
 -- ---- what happened in a run
 
 -- The event happens in the run, with these before it.
-unfoldable pub Happens : Event → List Event → List Event → Type 0
+unfoldable pub Happens : {A : Type 0} → A → List A → List A → Type 0
 Happens e before [] = ⊥
 Happens e before (x ∷ run) = ((x ≡ e) × (run ≡ before)) ⊎ Happens e before run
 
 -- The event is one of the run's.
-unfoldable pub Happened : Event → List Event → Type 0
+unfoldable pub Happened : {A : Type 0} → A → List A → Type 0
 Happened e [] = ⊥
 Happened e (x ∷ run) = (x ≡ e) ⊎ Happened e run
 

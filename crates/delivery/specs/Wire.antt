@@ -107,27 +107,18 @@ unfoldable pub plain : List WireEvent → List Event
 plain [] = []
 plain (e ∷ run) = with-event (plainly e) (plain run)
 
--- The event happens in the run, with these before it; the event is one of the run's.
-unfoldable pub WireHappens : WireEvent → List WireEvent → List WireEvent → Type 0
-WireHappens e before [] = ⊥
-WireHappens e before (x ∷ run) = ((x ≡ e) × (run ≡ before)) ⊎ WireHappens e before run
-
-unfoldable pub WireHappened : WireEvent → List WireEvent → Type 0
-WireHappened e [] = ⊥
-WireHappened e (x ∷ run) = (x ≡ e) ⊎ WireHappened e run
-
 -- An accepted transmit whose bytes these are; a first one that carries this datagram.
 pub record WireSent (bytes : List ℕ) (run : List WireEvent) : Type 0 where
   pub sender : SentPackets
   pub asked : Transmit
-  pub happened : WireHappened (transmits sender asked) run
+  pub happened : Happened (transmits sender asked) run
   pub is-accepted : accepted sender asked ≡ true
   pub bytes-are : SentAs asked bytes
 
 pub record WireFirst (d : Datagram) (run : List WireEvent) : Type 0 where
   pub sender : SentPackets
   pub asked : Transmit
-  pub happened : WireHappened (transmits sender asked) run
+  pub happened : Happened (transmits sender asked) run
   pub is-accepted : accepted sender asked ≡ true
   pub is-first : isFirst sender asked ≡ true
   pub carries : carried asked ≡ d
@@ -138,7 +129,7 @@ pub record WireBuilt (bytes : List ℕ) (run : List WireEvent) : Type 0 where
   pub buffer : List ℕ
   pub room : List ℕ
   pub acknowledgement : Acknowledgement
-  pub happened : WireHappened (builds receiver buffer room) run
+  pub happened : Happened (builds receiver buffer room) run
   pub answers : Answers receiver room acknowledgement
   pub bytes-are : AckedAs acknowledgement bytes
 
@@ -153,22 +144,22 @@ pub record WirePremises (b : Start) (run : List WireEvent) : Type 0 where
   pub fresh : Fresh b
   -- A channel between them may lose, repeat, delay or reorder datagrams; it alters and invents none: what arrives at an end went out from the other, byte for byte.
   pub channel :
-      (s : ReceiveBuffer) (buf bytes : List ℕ) (before : List WireEvent) → WireHappens (to-receiver s buf bytes) before run → WireHappened (sender-out bytes) before
+      (s : ReceiveBuffer) (buf bytes : List ℕ) (before : List WireEvent) → Happens (to-receiver s buf bytes) before run → Happened (sender-out bytes) before
   pub channel-back :
-      (s : SentPackets) (bytes : List ℕ) (delay clock : ℕ) (before : List WireEvent) → WireHappens (to-sender s bytes delay clock) before run → WireHappened (receiver-out bytes) before
+      (s : SentPackets) (bytes : List ℕ) (delay clock : ℕ) (before : List WireEvent) → Happens (to-sender s bytes delay clock) before run → Happened (receiver-out bytes) before
   -- A retransmission carries the payload first sent under its number.
   pub retransmission :
-      (s : SentPackets) (x : Transmit) (before : List WireEvent) → WireHappens (transmits s x) before run
+      (s : SentPackets) (x : Transmit) (before : List WireEvent) → Happens (transmits s x) before run
       → accepted s x ≡ true → isFirst s x ≡ false → WireFirst (carried x) before
   -- Only accepted transmits go out.
-  pub only-accepted : (bytes : List ℕ) (before : List WireEvent) → WireHappens (sender-out bytes) before run → WireSent bytes before
+  pub only-accepted : (bytes : List ℕ) (before : List WireEvent) → Happens (sender-out bytes) before run → WireSent bytes before
   -- Every acknowledgement the sender hears was built by that receiver earlier in the run, number and SACK at one moment: nothing else goes out from the receiver.
-  pub built : (bytes : List ℕ) (before : List WireEvent) → WireHappens (receiver-out bytes) before run → WireBuilt bytes before
+  pub built : (bytes : List ℕ) (before : List WireEvent) → Happens (receiver-out bytes) before run → WireBuilt bytes before
   -- Each end goes on from the state and buffer its own last call left, and nobody else touches them.
-  pub transmit-goes-on : (s : SentPackets) (x : Transmit) (before : List WireEvent) → WireHappens (transmits s x) before run → s ≡ senderAfter b (plain before)
-  pub timeout-goes-on : (s : SentPackets) (before : List WireEvent) → WireHappens (times-out s) before run → s ≡ senderAfter b (plain before)
+  pub transmit-goes-on : (s : SentPackets) (x : Transmit) (before : List WireEvent) → Happens (transmits s x) before run → s ≡ senderAfter b (plain before)
+  pub timeout-goes-on : (s : SentPackets) (before : List WireEvent) → Happens (times-out s) before run → s ≡ senderAfter b (plain before)
   pub hearing-goes-on :
-      (s : SentPackets) (bytes : List ℕ) (delay clock : ℕ) (before : List WireEvent) → WireHappens (to-sender s bytes delay clock) before run → s ≡ senderAfter b (plain before)
-  pub read-goes-on : (s : ReceiveBuffer) (buf out : List ℕ) (before : List WireEvent) → WireHappens (reads s buf out) before run → OnWith b s buf before
-  pub build-goes-on : (s : ReceiveBuffer) (buf room : List ℕ) (before : List WireEvent) → WireHappens (builds s buf room) before run → OnWith b s buf before
-  pub arrival-goes-on : (s : ReceiveBuffer) (buf bytes : List ℕ) (before : List WireEvent) → WireHappens (to-receiver s buf bytes) before run → OnWith b s buf before
+      (s : SentPackets) (bytes : List ℕ) (delay clock : ℕ) (before : List WireEvent) → Happens (to-sender s bytes delay clock) before run → s ≡ senderAfter b (plain before)
+  pub read-goes-on : (s : ReceiveBuffer) (buf out : List ℕ) (before : List WireEvent) → Happens (reads s buf out) before run → OnWith b s buf before
+  pub build-goes-on : (s : ReceiveBuffer) (buf room : List ℕ) (before : List WireEvent) → Happens (builds s buf room) before run → OnWith b s buf before
+  pub arrival-goes-on : (s : ReceiveBuffer) (buf bytes : List ℕ) (before : List WireEvent) → Happens (to-receiver s buf bytes) before run → OnWith b s buf before

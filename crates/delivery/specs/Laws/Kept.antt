@@ -14,14 +14,14 @@ use Rattle.delivery.specs.Run.{Datagram, Acknowledgement, Transmit, Send
 
 -- ---- something that holds of every event and what was before it
 
-abbrev pub Along : (Event → List Event → Type 0) → List Event → Type 0
-Along Q run = (e : Event) (before : List Event) → Happens e before run → Q e before
+abbrev pub Along : {A : Type 0} → (A → List A → Type 0) → List A → Type 0
+Along {A} Q run = (e : A) (before : List A) → Happens e before run → Q e before
 
-pub along-none : (Q : Event → List Event → Type 0) → Along Q []
+pub along-none : {A : Type 0} (Q : A → List A → Type 0) → Along Q []
 unfolding Happens
 along-none Q e before h = absurd h
 
-pub along-more : (Q : Event → List Event → Type 0) (x : Event) (run : List Event) → Q x run → Along Q run → Along Q (x ∷ run)
+pub along-more : {A : Type 0} (Q : A → List A → Type 0) (x : A) (run : List A) → Q x run → Along Q run → Along Q (x ∷ run)
 unfolding Happens
 along-more Q x run here rest e before (inl k) = subst₂ Q (k .0) (k .1) here
 along-more Q x run here rest e before (inr h) = rest e before h
@@ -178,12 +178,12 @@ buffer-kept b run along s buf call before h = along (at-receiver s buf call) bef
 
 -- ---- an event at a place of a run, the newest at 0
 
-abbrev pub eventAt : List Event → ℕ → Option Event
+abbrev pub eventAt : {A : Type 0} → List A → ℕ → Option A
 eventAt [] i = none
 eventAt (e ∷ run) zero = some e
 eventAt (e ∷ run) (suc i) = eventAt run i
 
-pub happened-at : (e : Event) (run : List Event) (i : ℕ) → eventAt run i ≡ some e → Happened e run
+pub happened-at : {A : Type 0} (e : A) (run : List A) (i : ℕ) → eventAt run i ≡ some e → Happened e run
 unfolding Happened
 happened-at e [] i h = let z : _≡_ {A = ℕ} 0 1 = cc in absurd (omega arith)
 happened-at e (x ∷ run) zero h = inl (cc)

@@ -16,8 +16,8 @@ use Rattle.packet.specs.Encode.{packetBytes}
 use Rattle.packet.specs.Laws.ReadWritten.{placeOfSack, placeOfPayload, read-encoded, sack-back, payload-back}
 use Rattle.sent.specs.declared.state.SentPackets.{SentPackets}
 use Rattle.recv.specs.declared.ReceiveBuffer.{ReceiveBuffer}
-use Rattle.delivery.specs.Run.{Datagram, Acknowledgement, Transmit, SenderCall, transmit, hear, time-out, ReceiverCall, write, read, build, Event, at-sender, at-receiver, goes-out, Start, senderAfter, receiverAfter, accepted, isFirst, Happened, carried, FirstSent, Answers, Delivered}
-use Rattle.delivery.specs.Wire.{Writes, SentAs, AckedAs, carriesPayload, payloadOf, payloadIn, acknowledgementOf, acknowledgementIn, WireEvent, transmits, times-out, reads, builds, sender-out, receiver-out, to-receiver, to-sender, mapped, plainly, with-event, plain, WireHappens, WireHappened, WireSent, WireFirst, WireBuilt, OnWith, WirePremises}
+use Rattle.delivery.specs.Run.{Happens, Datagram, Acknowledgement, Transmit, SenderCall, transmit, hear, time-out, ReceiverCall, write, read, build, Event, at-sender, at-receiver, goes-out, Start, senderAfter, receiverAfter, accepted, isFirst, Happened, carried, FirstSent, Answers, Delivered}
+use Rattle.delivery.specs.Wire.{Writes, SentAs, AckedAs, carriesPayload, payloadOf, payloadIn, acknowledgementOf, acknowledgementIn, WireEvent, transmits, times-out, reads, builds, sender-out, receiver-out, to-receiver, to-sender, mapped, plainly, with-event, plain, WireSent, WireFirst, WireBuilt, OnWith, WirePremises}
 use Rattle.delivery.specs.Laws.Kept.{Keeps, keeps-none, premises-kept, keeps-transmit, keeps-hear, keeps-time-out, keeps-write, keeps-read, keeps-build, keeps-out}
 use Rattle.delivery.specs.Laws.Theorem.{delivered}
 
@@ -67,8 +67,8 @@ acked-read a bytes heard was e =
 -- ---- events over bytes and plainly
 
 -- What happened over bytes happened plainly.
-happened-plain : (w : WireEvent) (e : Event) (run : List WireEvent) → plainly w ≡ some e → WireHappened w run → Happened e (plain run)
-unfolding WireHappened Happened plain
+happened-plain : (w : WireEvent) (e : Event) (run : List WireEvent) → plainly w ≡ some e → Happened w run → Happened e (plain run)
+unfolding Happened plain
 happened-plain w e [] is h = absurd h
 happened-plain w e (x ∷ run) is (inl same) = subst (λ (o : Option Event). Happened e (with-event o (plain run))) (sym (ap plainly same ∙ is)) (inl refl)
 happened-plain w e (x ∷ run) is (inr h) = later (plainly x) (happened-plain w e run is h)
@@ -80,10 +80,10 @@ happened-plain w e (x ∷ run) is (inr h) = later (plainly x) (happened-plain w 
 -- What went out from the receiver was built before.
 built-before :
     (bytes : List ℕ) (run : List WireEvent)
-    → ((before : List WireEvent) → WireHappens (receiver-out bytes) before run → WireBuilt bytes before)
-    → WireHappened (receiver-out bytes) run
+    → ((before : List WireEvent) → Happens (receiver-out bytes) before run → WireBuilt bytes before)
+    → Happened (receiver-out bytes) run
     → WireBuilt bytes run
-unfolding WireHappens WireHappened
+unfolding Happens Happened
 built-before bytes [] premise h = absurd h
 built-before bytes (x ∷ run) premise h = by-first h (built-before bytes run (λ before k. premise before (inr k)))
   where
@@ -99,7 +99,7 @@ built-before bytes (x ∷ run) premise h = by-first h (built-before bytes run (�
           bytes-are = k .bytes-are;
         }
 
-    by-first : (x ≡ receiver-out bytes) ⊎ WireHappened (receiver-out bytes) run → (WireHappened (receiver-out bytes) run → WireBuilt bytes run) → WireBuilt bytes (x ∷ run)
+    by-first : (x ≡ receiver-out bytes) ⊎ Happened (receiver-out bytes) run → (Happened (receiver-out bytes) run → WireBuilt bytes run) → WireBuilt bytes (x ∷ run)
     by-first (inl same) rest = more (premise run (inl (same, refl)))
     by-first (inr k) rest = more (rest k)
 
@@ -107,7 +107,7 @@ built-before bytes (x ∷ run) premise h = by-first h (built-before bytes run (�
 
 -- They hold of what happened earlier.
 earlier : (b : Start) (x : WireEvent) (run : List WireEvent) → WirePremises b (x ∷ run) → WirePremises b run
-unfolding WireHappens
+unfolding Happens
 earlier b x run k =
     record {
       fresh = k .fresh;
@@ -172,7 +172,7 @@ module _ (b : Start) (run : List WireEvent) (keeps : Keeps b (plain run)) where
           })
 
   wire-arrival :
-      (s : ReceiveBuffer) (buf bytes : List ℕ) → OnWith b s buf run → WireHappened (sender-out bytes) run → Keeps b (with-event (mapped (λ d. at-receiver s buf (write d)) (payloadIn bytes)) here)
+      (s : ReceiveBuffer) (buf bytes : List ℕ) → OnWith b s buf run → Happened (sender-out bytes) run → Keeps b (with-event (mapped (λ d. at-receiver s buf (write d)) (payloadIn bytes)) here)
   wire-arrival s buf bytes same came = by-payload (payloadIn bytes) refl
     where
       by-payload : (o : Option Datagram) → payloadIn bytes ≡ o → Keeps b (with-event (mapped (λ d. at-receiver s buf (write d)) o) here)
@@ -199,7 +199,7 @@ module _ (b : Start) (run : List WireEvent) (keeps : Keeps b (plain run)) where
           }))
 
 keeps-plain : (b : Start) (run : List WireEvent) → WirePremises b run → Keeps b (plain run)
-unfolding WireHappens plain
+unfolding Happens plain
 keeps-plain b [] k = keeps-none b
 keeps-plain b (transmits s x ∷ run) k =
     wire-transmit b run (keeps-plain b run (earlier b _ run k)) s x (k .transmit-goes-on s x run (inl (refl, refl))) (k .retransmission s x run (inl (refl, refl)))
