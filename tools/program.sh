@@ -38,13 +38,59 @@ check_use() {
   [ $# -le "${#words[@]}" ] || wrong_use "$name" "$files" "$# files are named, and it takes ${#words[@]}"
 }
 
+# The crates that a program is built from, itself among them, one to a line.
+crates_of() {
+  awk -v want="$1" '
+    { sub(/#.*/, ""); at = index($0, ":"); if (!at) next; name = substr($0, 1, at - 1); gsub(/ /, "", name); uses[name] = substr($0, at + 1) }
+    function add(name,   parts, count, i) {
+      if (!(name in uses) || name in seen) return
+      seen[name] = 1
+      count = split(uses[name], parts, " ")
+      for (i = 1; i <= count; i++) add(parts[i])
+      print name
+    }
+    END { add(want) }' "$root/crates.txt"
+}
+
+# Reads what `rt check` prints, keeps it in the file $1, and says after each crate that had to be proved how far it is.
+progress() {
+  local line done=0 all=$3 began=$SECONDS
+  while IFS= read -r line; do
+    printf '%s\n' "$line" >> "$1"
+    case $line in
+      'rt: '*' proved (unchanged'*) done=$((done + 1)) ;;
+      'rt: '*' proved ('*)
+        done=$((done + 1))
+        line=${line#rt: }
+        printf '%s: %s of %s crates proved, %s s (%s)\n' "$2" "$done" "$all" "$((SECONDS - began))" "${line%% *}" >&2
+        ;;
+    esac
+  done
+}
+
+# Proves and builds the program where that was not done yet. Two at once would disturb each other, so the second waits.
 build() {
-  local said
+  local name=$1 said all missing
   (. "$root/tests/toolchain.sh") || exit 3
-  if ! said=$(cd "$root" && rt check "$1" 2>&1); then
-    printf '%s\n' "$said" >&2
+  mkdir -p "$root/target"
+  exec 9> "$root/target/building"
+  if ! flock -n 9; then
+    echo "$name: another program is being built in this folder; waiting for it" >&2
+    flock 9
+  fi
+  all=$(crates_of "$name" | wc -l)
+  missing=$(for crate in $(crates_of "$name"); do [ -f "$root/target/stamp/$crate" ] || echo "$crate"; done | wc -l)
+  if [ "$missing" -gt 1 ]; then
+    echo "$name: the first run proves what it is built from: $missing of $all crates, some minutes on two cores" >&2
+  fi
+  said=$(mktemp)
+  if ! (cd "$root" && rt check "$name" 2>&1) | progress "$said" "$name" "$all"; then
+    cat "$said" >&2
+    rm -f "$said"
     exit 3
   fi
+  rm -f "$said"
+  exec 9>&-
 }
 
 program() {
