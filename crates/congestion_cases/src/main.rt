@@ -1,5 +1,8 @@
 // Replays recorded sessions of the congestion controller (oracle/README.md) and compares every answer
 // and every number after each event. One line for each list: its events by answer number.
+
+#![tactic(auto)]
+
 mod event;
 mod session;
 

@@ -1,5 +1,8 @@
 // Reading a list of records from a file descriptor, through a window of bounded size that the caller
 // lends. Numbers in a list are big-endian.
+
+#![tactic(auto)]
+
 ghost use Rattle.std.specs.Prelude.{◌≡◌, ◌+◌, ◌*◌, ◌%◌, ◌≤◌};
 
 // Where the reading stands. The bytes of the window from `at` up to `end` are still to be taken.

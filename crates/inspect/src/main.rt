@@ -1,6 +1,9 @@
 // Shows the datagrams of a flat file, one to a line: of standard input, or of the file that the first
 // argument names. Each is a 2-byte big-endian length and then that many bytes. Bytes left over that
 // make no whole datagram give a last line `cut`.
+
+#![tactic(auto)]
+
 use feed::Feed;
 use libc::STDIN_FILENO;
 use lines::datagram::{LONGEST, put_line};

@@ -1,2 +1,5 @@
 // The line that shows a datagram.
+
+#![tactic(auto)]
+
 pub mod datagram;

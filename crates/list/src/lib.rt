@@ -1,6 +1,9 @@
 // A list of records that is held whole: its numbers and bytes by their places. Numbers in a list are
 // big-endian. What is past the end of a list reads as 0, so a record that is cut must be told by its
 // length.
+
+#![tactic(auto)]
+
 ghost use Rattle.std.specs.Prelude.{◌≡◌, length};
 
 use feed::appended;

@@ -1,5 +1,8 @@
 // Replays what the Rust answered to datagrams and packets (oracle/README.md) and compares every field
 // and every byte with the codec's answers; then the cases that the lists lack. One line for each.
+
+#![tactic(auto)]
+
 use report::text::front;
 
 mod decode_list;

@@ -1,5 +1,8 @@
 // The receiver: payloads that arrive in any order, handed out in order, over a buffer of bytes that
 // the caller lends to every call (document 01, "Receiving").
+
+#![tactic(auto)]
+
 use seq::SeqNum;
 
 mod bytes;

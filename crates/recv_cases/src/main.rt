@@ -1,6 +1,9 @@
 // Replays recorded sessions of the receiver (oracle/README.md) and compares every answer, every byte
 // that is read or acknowledged, and every byte of lent room that must stay as it was. One line for the
 // sessions, and one for the events of each kind by answer number, each by a replay of its own.
+
+#![tactic(auto)]
+
 use report::text::front;
 use session::replay;
 

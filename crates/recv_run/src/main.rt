@@ -1,6 +1,9 @@
 // A random run of the receiver: 160,000 steps over four receivers, each step a write, a read and
 // every sixteenth an acknowledgement, in which every byte read must be the byte that was sent. The
 // numbers come from a small generator with a fixed seed. Prints a line of totals for each receiver.
+
+#![tactic(auto)]
+
 ghost use Rattle.std.specs.Prelude.{◌<◌};
 
 use recv::{Count, Number, ReceiveBuffer, Writing};

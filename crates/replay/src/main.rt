@@ -1,6 +1,9 @@
 // Replays a recorded sender session, of standard input or of the file that the first argument names,
 // and prints what the tracker does: a line for each event, or one line `bad` for a file that is
 // refused. What is printed is the library's; here stand the reading and the writing.
+
+#![tactic(auto)]
+
 ghost use Rattle.std.specs.Prelude.{◌+◌, ◌≤◌, ◌≡◌, length};
 
 use libc::{STDERR_FILENO, STDIN_FILENO};

@@ -1,5 +1,8 @@
 // Replays recorded sessions of the tracker and prints a line for the sessions, and one for the events of
 // each kind by answer number.
+
+#![tactic(auto)]
+
 fn main() {
     let fd = os::open_read(b"sent.bin");
     if fd < 0 {

@@ -1,5 +1,8 @@
 // Runs a recorded session of 60,000 packets to its end, and prints a line for its events of each kind by
 // answer number, and one for how it ended.
+
+#![tactic(auto)]
+
 use report::text::{print, put_byte, put_bytes, put_next};
 
 // Packets sent, bytes in flight, maximum, timeout, ack number.

@@ -1,5 +1,5 @@
 -- Laws of sequence numbers and offsets: numbers from an initial one and offsets are one-to-one, and a range is its walk.
-use Rattle.std.specs.Prelude.{◌≡◌, ℕ, zero, suc, ◌+◌, ◌-◌, ◌^◌, ◌<◌, ◌≤◌, Bool, true, false, cond, [], ◌∷◌, ◌==◌, slice_index_or, refl}
+use Rattle.std.specs.Prelude.{◌≡◌, ℕ, zero, suc, ◌+◌, ◌^◌, ◌<◌, ◌≤◌, Bool, true, false, cond, [], ◌∷◌, ◌==◌, slice_index_or, refl}
 use Rattle.std.proofs.Common.{arith, ◌∙◌, ap, sym, leb-true, le-leb, eqb-true}
 use Rattle.std.proofs.lemmas.Bool.{eqb-false}
 use Rattle.seq.specs.Seq.{plus_of, offset_of, contains_of, next_of, walk, walk_of}

@@ -1,14 +1,17 @@
 // Sequence numbers and offsets, two kinds that cannot be mixed.
+
+#![tactic(auto)]
+
 ghost use Rattle.std.specs.Prelude.{◌≡◌};
 ghost use Rattle.seq.specs.Seq.{plus_of, offset_of, range_of, contains_of, next_of};
 
 // A number as it stands on the wire. Numbers run round modulo 65,536.
 #[repr(C)]
-#[derive(Drop)]
+#[derive(Clone, Copy)]
 pub struct SeqNum(pub u16);
 
 // How far a number lies past an initial number, modulo 65,536.
-#[derive(Drop)]
+#[derive(Clone, Copy)]
 pub struct Offset(pub u16);
 
 impl SeqNum {
@@ -35,7 +38,7 @@ impl SeqNum {
 }
 
 // The numbers from start up to end, both among them, upward modulo 65,536.
-#[derive(Drop)]
+#[derive(Clone, Copy)]
 pub struct CircularRangeInclusive {
     pub start: SeqNum,
     pub end: SeqNum,
@@ -43,7 +46,7 @@ pub struct CircularRangeInclusive {
 }
 
 // What a step of the walk gives: a number with what is left, or the end.
-#[derive(Drop)]
+#[derive(Clone, Copy)]
 pub enum Step {
     Item(SeqNum, CircularRangeInclusive),
     Done,

@@ -2,6 +2,9 @@
 // datagrams. First a run of fixed steps, printed step by step; then 240 seeded runs, a line each; then
 // a line of totals, which says of how many runs the bytes differ. Every byte that is read is compared
 // with the one that was sent. With a seed as its argument it prints that run alone, step by step.
+
+#![tactic(auto)]
+
 mod book;
 mod channel;
 mod plan;
