@@ -1,4 +1,4 @@
-/* Ribsaddle: uTP (BEP 29) without sockets, proved, for C and C++ on x86-64 Linux. Link libribsaddle.a, which `rt staticlib ribsaddle` writes.
+/* Ribsaddle: uTP (BEP 29) without sockets, proved, for C and C++ on x86-64 Linux. Link libribsaddle.a, which tools/library.sh writes.
  *
  * Every function returns an answer number, RIBSADDLE_DONE or the reason of a refusal. Where it refuses, all memory that it was lent is as it was before the call.
  * A pointer is never null, and points to memory that the call may use alone: a state, a value, or as many bytes as the length that follows says (not null where

@@ -3,9 +3,9 @@
 # datagram; then the statuses and messages of the script ./inspect.
 set -eu
 here=$(cd "$(dirname "$0")/.." && pwd)
-(cd "$here" && rt check inspect) > /dev/null
+(cd "$here/crates/inspect" && rt run < /dev/null) > /dev/null 2>&1
 . "$here/tests/machine.sh"
-inspect() { $run "$here/target/bin/inspect" "$@"; }
+inspect() { $run "$here/crates/inspect/out/inspect" "$@"; }
 sample=$here/crates/inspect/data/capture-sample.dgrams
 lines=$here/crates/inspect/stdout
 room=$(mktemp -d)

@@ -3,9 +3,9 @@
 # then the statuses and messages of the script ./replay.
 set -eu
 here=$(cd "$(dirname "$0")/.." && pwd)
-(cd "$here" && rt check replay) > /dev/null
+(cd "$here/crates/replay" && rt run < /dev/null) > /dev/null 2>&1
 . "$here/tests/machine.sh"
-python3 "$here/tests/replay.py" $run "$here/target/bin/replay"
+python3 "$here/tests/replay.py" $run "$here/crates/replay/out/replay"
 room=$(mktemp -d)
 trap 'rm -rf "$room"' EXIT
 

@@ -1,5 +1,5 @@
 # Read by ./replay, ./inspect and ./test: is the toolchain here, and is it the one that this repository is proved with?
-wanted="rattle-kit-5b logic 064da1ca440f63e7"
+wanted="rattle-kit-13f logic dac8208d650f15bf"
 if ! command -v rt >/dev/null 2>&1; then
   echo "ribsaddle: the command 'rt' of the Rattle toolchain is not on the PATH; this repository needs $wanted" >&2
   exit 2

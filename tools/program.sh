@@ -52,21 +52,23 @@ crates_of() {
     END { add(want) }' "$root/crates.txt"
 }
 
-# Reads what `rt check` prints, keeps it in the file $1, and says after each crate that had to be proved how far it is.
+# Reads what `rt run` says, keeps it in the file $1, and says after each crate that had to be proved how far it is: $3 were not proved yet.
 progress() {
-  local line done=0 all=$3 began=$SECONDS
+  local line crate='' proved=0 missing=$3 began=$SECONDS
   while IFS= read -r line; do
     printf '%s\n' "$line" >> "$1"
     case $line in
-      'rt: '*' proved (unchanged'*) done=$((done + 1)) ;;
-      'rt: '*' proved ('*)
-        done=$((done + 1))
-        line=${line#rt: }
-        printf '%s: %s of %s crates proved, %s s (%s)\n' "$2" "$done" "$all" "$((SECONDS - began))" "${line%% *}" >&2
+      'rt: chose '*' for '*) crate=${line##* } ;;
+      logic=proved*)
+        proved=$((proved + 1))
+        printf '%s: %s of %s crates proved, %s s (%s)\n' "$2" "$proved" "$missing" "$((SECONDS - began))" "$crate" >&2
         ;;
     esac
   done
 }
+
+# Is the crate proved and built already?
+is_built() { [ -f "$root/crates/$1/out/rlib/stamp" ] || [ -x "$root/crates/$1/out/$1" ]; }
 
 # Proves and builds the program where that was not done yet. Two at once would disturb each other, so the second waits.
 build() {
@@ -79,12 +81,13 @@ build() {
     flock 9
   fi
   all=$(crates_of "$name" | wc -l)
-  missing=$(for crate in $(crates_of "$name"); do [ -f "$root/target/stamp/$crate" ] || echo "$crate"; done | wc -l)
+  missing=$(for crate in $(crates_of "$name"); do is_built "$crate" || echo "$crate"; done | wc -l)
   if [ "$missing" -gt 1 ]; then
     echo "$name: the first run proves what it is built from: $missing of $all crates, some minutes on two cores" >&2
   fi
   said=$(mktemp)
-  if ! (cd "$root" && rt check "$name" 2>&1) | progress "$said" "$name" "$all"; then
+  # `rt run` proves, builds and runs the program, here on no bytes, of which it prints at most a line; what rt says goes to standard error.
+  if ! (cd "$root/crates/$name" && rt run 2>&1 > /dev/null < /dev/null) | progress "$said" "$name" "$missing"; then
     cat "$said" >&2
     rm -f "$said"
     exit 3
@@ -107,7 +110,7 @@ program() {
   fi
   said=$(mktemp)
   trap 'rm -f "$said"' EXIT
-  $run "$root/target/bin/$name" "$@" 2> "$said" || status=$?
+  $run "$root/crates/$name/out/$name" "$@" 2> "$said" || status=$?
   if [ -s "$said" ]; then
     cat "$said" >&2
     exit 1

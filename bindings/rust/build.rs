@@ -1,5 +1,5 @@
 //! Finds libribsaddle.a: in the folder that RIBSADDLE_LIB_DIR names, else in target/staticlib of the repository, else by
-//! `rt staticlib ribsaddle`, which proves and builds it there.
+//! tools/library.sh, which proves and builds it there.
 
 use std::path::{Path, PathBuf};
 use std::process::Command;
@@ -20,20 +20,19 @@ fn named() -> Option<PathBuf> {
     Some(folder)
 }
 
-/// Where `rt` writes it, built now where it is not there yet.
+/// Where tools/library.sh writes it, built now where it is not there yet.
 fn built(repository: &Path) -> PathBuf {
     let folder = repository.join("target/staticlib");
     if folder.join(ARCHIVE).is_file() {
         return folder;
     }
     let wanted = format!(
-        "there is no {ARCHIVE} in {}. Name its folder by the variable RIBSADDLE_LIB_DIR, or build it with `rt staticlib ribsaddle` \
-         in {}",
+        "there is no {ARCHIVE} in {}. Name its folder by the variable RIBSADDLE_LIB_DIR, or build it with `sh tools/library.sh` in {}",
         folder.display(),
         repository.display()
     );
-    match Command::new("rt").args(["staticlib", "ribsaddle"]).current_dir(repository).output() {
-        Err(_) => missing(&format!("{wanted} (the command `rt` of the Rattle toolchain is not on the PATH)")),
+    match Command::new("sh").arg("tools/library.sh").current_dir(repository).output() {
+        Err(_) => missing(&format!("{wanted} (there is no `sh`)")),
         Ok(run) if !run.status.success() => {
             let said = [run.stdout, run.stderr].concat();
             missing(&format!("{wanted} (it failed:\n{})", String::from_utf8_lossy(&said)))

@@ -1,5 +1,5 @@
 /* A whole transfer between two ends in one process: datagrams are written, carried over a channel that loses some, read and acknowledged.
- *   rt staticlib ribsaddle && cc -Iinclude examples/c/transfer.c target/staticlib/libribsaddle.a -o transfer && ./transfer */
+ *   sh tools/library.sh && cc -Iinclude examples/c/transfer.c target/staticlib/libribsaddle.a -o transfer && ./transfer */
 #include "ribsaddle.h"
 #include <stdio.h>
 #include <stdlib.h>
