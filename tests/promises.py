@@ -60,7 +60,7 @@ def main():
                     problems.append(f"{file}:{number}: {shown} has a `requires`")
                 if not re.search(r"^\s*ensures", contract, re.M):
                     problems.append(f"{file}:{number}: {shown} promises nothing")
-                use = re.search(r"proofs\.proofs\." + re.escape(path) + r"(?:\.Reads)? as (\S+)", listed)
+                use = re.search(r"use Rattle\." + crate.name + r"\.(?:proofs|specs\.contracts)\." + re.escape(path) + r"(?:\.Reads)? as (\S+)", listed)
                 if not use:
                     problems.append(f"{file}:{number}: {shown} has no promise in {promises}")
                 elif not re.search(r"(Promise[^\n]*\b" + re.escape(use.group(1)) + r"\.Pre\b|: Exported " + re.escape(use.group(1)) + r"\.ended )", listed):
