@@ -27,7 +27,7 @@ num = {i: L + n for n, i in enumerate(refs)}     # the callee's lifetimes: the l
 wnum = {i: 1 + n for n, i in enumerate(refs)}    # the function's: the state's, then the slices'
 A, a, p, z, l = ((lambda i, x=x: x + sub(i)) for x in "Aapzl")
 mb = lambda f: f"m{sub(f)}"
-R = lambda f: f"(memberRow {mb(f)})"
+R = lambda f: f"(member_row {mb(f)})"
 
 
 def row(i, n):
@@ -98,7 +98,7 @@ denote.Struct.Steps spelt
 denote.Struct.Struct Struct layout as-fields
 denote.Struct.Declared shape
 denote.Struct.Recorded Recorded recorded-part
-denote.Struct.Members Member rowOf:memberRow rowsOf partsAt
+denote.Struct.Members Member rowOf:member_row rowsOf partsAt
 denote.Struct.Parts shapeOf PartsBack struct-parts
 denote.Triple.Statement Contract Triple
 denote.Triple.Call calls-at
@@ -111,7 +111,7 @@ denote.Triple.Walked says Stays stay-ref stay-none stay-none-slice gave-slice ga
 out("@USES@")
 mv = "(stateMember S₀)"
 mb = lambda f: mv if f == v else f"m{sub(f)}"
-R = lambda f: f"(memberRow {mb(f)})"
+R = lambda f: f"(member_row {mb(f)})"
 others = [f for f in F if f != v]
 ms = "(" + lst([mb(f) for f in F]) + ")"
 fden = lambda f: "S₀ .T .D" if f == v else f"{mb(f)} .row .Denot"
@@ -168,7 +168,7 @@ for s in reversed(stmts):
     body = f"seq ({s}) {par(body)}"
 out(f"  abbrev pub function : Fn\n  function = record {{\n    lifetimes = {nl};\n    outlives = [];\n    params = {k + 1};\n    locals = {lst([f'local {par(t)} valueLocal' for t in locs])};\n    body = {body};\n  }}\n")
 kept, ckept = tup(["yes"] * (k + 1)), tup(["yes"] * (k + L + 1))
-out(f"  abbrev pub callee : Signature\n  callee = record {{ lifetimes = {cl}; outlives = []; params = {lst(['plain (λ _. stateRow S₀)'] + [f'RefMutOf ({n} ∷ []) tt (plain (λ _. memberRow {mb(f)})) (λ _. tt)' for n, f in enumerate(Lf)] + [slot(i, num.get(i)) for i in ix])}; result = plain (λ _. O .row) }}\n")
+out(f"  abbrev pub callee : Signature\n  callee = record {{ lifetimes = {cl}; outlives = []; params = {lst(['plain (λ _. stateRow S₀)'] + [f'RefMutOf ({n} ∷ []) tt (plain (λ _. member_row {mb(f)})) (λ _. tt)' for n, f in enumerate(Lf)] + [slot(i, num.get(i)) for i in ix])}; result = plain (λ _. O .row) }}\n")
 out(f"  abbrev pub signature : Signature\n  signature = record {{ lifetimes = {nl}; outlives = []; params = {lst(['RefMutOf (0 ∷ []) tt (plain (λ _. Row)) (λ _. tt)'] + [slot(i, wnum.get(i)) for i in ix])}; result = plain (λ _. rowOf Ans) }}\n")
 out(f"  abbrev pub ended : Ended\n  ended = record {{ signature = signature; kept = {kept} }}\n")
 stay = lambda i: {"n": f"stay-none (λ _. rowOf {A(i)}) yes", "s": f"stay-none-slice ({wnum.get(i)} ∷ []) tt (plain (λ _. rowOf {A(i)})) yes", "m": f"gave-slice ({wnum.get(i)} ∷ []) tt (plain (λ _. rowOf {A(i)}))", "r": f"gave-ref ({wnum.get(i)} ∷ []) tt (plain (λ _. rowOf {A(i)}))"}[kind[i]]

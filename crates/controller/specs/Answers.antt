@@ -11,16 +11,16 @@ use Rattle.controller.specs.declared.state.Outcome.{Outcome}
 
 -- 10: setting out of range; 11: time or delay above 2^50, or now below the last accepted now; 12: number not sent; 13: first transmit longer than
 -- the free window; 19: state not sound.
-abbrev pub reasonNumber : Reason → ℕ
-reasonNumber BadSetting = 10
-reasonNumber BadTime = 11
-reasonNumber NotSent = 12
-reasonNumber NoWindow = 13
-reasonNumber NotSound = 19
+abbrev pub reason_number : Reason → ℕ
+reason_number BadSetting = 10
+reason_number BadTime = 11
+reason_number NotSent = 12
+reason_number NoWindow = 13
+reason_number NotSound = 19
 
 abbrev pub given : Given → Answer (Unit {0})
 given Done = done tt
-given (Refused r) = refused (reasonNumber r)
+given (Refused r) = refused (reason_number r)
 
 -- The answer beside the controller.
 abbrev pub outcome : Outcome → Answer (Unit {0}) × Controller

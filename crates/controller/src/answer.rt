@@ -1,6 +1,6 @@
 // What a call of the controller answers, with the reason inside the refusal.
 ghost use Rattle.std.specs.Prelude.{◌≡◌};
-ghost use Rattle.controller.specs.Answers.{reasonNumber};
+ghost use Rattle.controller.specs.Answers.{reason_number};
 
 // Why a call is refused, each with its number.
 #[derive(Drop)]
@@ -20,7 +20,7 @@ pub enum Reason {
 impl Reason {
     // The number of the refusal.
     pub fn number(self) -> u32
-        ensures { result ≡ reasonNumber self }
+        ensures { result ≡ reason_number self }
     {
         match self {
             Reason::BadSetting => 10,

@@ -2,7 +2,7 @@
 // comes back as it was. The packets themselves are kept by the tracker.
 ghost use Rattle.std.specs.Prelude.{◌≡◌, true, ◌≤◌, ◌^◌};
 ghost use Rattle.congestion.specs.Numbers.{free_of, sound_of};
-ghost use Rattle.controller.specs.Answers.{reasonNumber, outcome};
+ghost use Rattle.controller.specs.Answers.{reason_number, outcome};
 ghost use Rattle.controller.specs.Controller.{done_of, refused_of, controller_sound_of, controller_of, in_time_of, send_of, on_transmit_of, credit_of, on_ack_of, on_loss_of, on_timeout_of};
 
 use crate::answer::{Answer, Reason};
@@ -88,7 +88,7 @@ impl Controller {
     }
 
     fn refused(self, reason: Reason) -> Outcome
-        ensures { outcome result ≡ refused_of self (reasonNumber reason) }
+        ensures { outcome result ≡ refused_of self (reason_number reason) }
     {
         Outcome {
             answer: Answer::Refused(reason),

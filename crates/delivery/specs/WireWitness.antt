@@ -5,14 +5,14 @@ use Rattle.packet.specs.declared.kind.PacketType.{PacketType}
 use Rattle.packet.specs.declared.kind.PacketType.TheVariants.{Data, State}
 use Rattle.packet.specs.declared.header.Header.{Header}
 use Rattle.packet.specs.Encode.{packet_bytes}
-use Rattle.sent.specs.State.{fresh_of as freshSender}
-use Rattle.recv.specs.State.{fresh_of as freshReceiver}
+use Rattle.sent.specs.State.{fresh_of as fresh_sender}
+use Rattle.recv.specs.State.{fresh_of as fresh_receiver}
 use Rattle.delivery.specs.Run.{Acknowledgement, Transmit, Start, sender_after, receiver_after}
 use Rattle.delivery.specs.Wire.{WireEvent, transmits, times_out, reads, builds, sender_out, receiver_out, to_receiver, to_sender, plain}
 use Rattle.delivery.specs.Witness.{settings, seq, data_of}
 
 abbrev pub start : Start
-start = record { sender = freshSender (seq 65535) settings; receiver = freshReceiver (seq 65535) 4; buffer = replicate 4 0 }
+start = record { sender = fresh_sender (seq 65535) settings; receiver = fresh_receiver (seq 65535) 4; buffer = replicate 4 0 }
 
 abbrev pub first : Transmit
 first = data_of 0 1 (65 ∷ []) 0

@@ -6,8 +6,8 @@ use Rattle.std.specs.Float.{fin}
 use Rattle.seq.specs.declared.SeqNum.{SeqNum}
 use Rattle.packet.specs.declared.kind.PacketType.TheVariants.{Data}
 use Rattle.congestion.specs.declared.settings.Settings.{Settings}
-use Rattle.sent.specs.State.{fresh_of as freshSender}
-use Rattle.recv.specs.State.{fresh_of as freshReceiver}
+use Rattle.sent.specs.State.{fresh_of as fresh_sender}
+use Rattle.recv.specs.State.{fresh_of as fresh_receiver}
 use Rattle.delivery.specs.Run.{Datagram, Acknowledgement, Transmit, SenderCall, transmit, hear, time_out, ReceiverCall, write, read, build, Event, at_sender, at_receiver, goes_out, Start, sender_after, receiver_after, carried}
 
 -- The settings of the worked case of document 02, No. 3.
@@ -28,7 +28,7 @@ seq n = record { 0 = n }
 
 -- Five packets, 65,534 to 2, after the initial number 65,533; a buffer of ten bytes for their eight.
 abbrev pub start : Start
-start = record { sender = freshSender (seq 65533) settings; receiver = freshReceiver (seq 65533) 10; buffer = replicate 10 0 }
+start = record { sender = fresh_sender (seq 65533) settings; receiver = fresh_receiver (seq 65533) 10; buffer = replicate 10 0 }
 
 -- A transmit of these bytes under this number at this time.
 abbrev pub data_of : ℕ → ℕ → List ℕ → ℕ → Transmit

@@ -1,6 +1,6 @@
 -- Every public function of the crate, in the order of the source: nothing is asked of its caller, and no two different outcomes satisfy its promise.
 use Rattle.common.specs.Promise.{Promise, by_value, by_code}
-use Rattle.outgoing.specs.Answers.{outcome, numberTold, seqTold, rangeTold, truthTold}
+use Rattle.outgoing.specs.Answers.{outcome, number_told, seq_told, range_told, truth_told}
 use Rattle.outgoing.specs.Laws.OneToOne.{outcome_one, number_one, seq-one, range_one, truth_one}
 use Rattle.outgoing.proofs.answer.Reason.number.Reads as reason-number
 use Rattle.outgoing.proofs.ack.ack_check.Reads as ack-check
@@ -79,19 +79,19 @@ wrap_place_promise : Promise wrap-place.Pre wrap-place.Post (λ κs r s. r)
 wrap_place_promise = by_value _ (λ κs a. tt) (λ κs a r s p. p)
 
 number_told_promise : Promise number_told.Pre number_told.Post (λ κs r s. r)
-number_told_promise = by_code numberTold number_one _ (λ κs a. tt) (λ κs a r s p. p)
+number_told_promise = by_code number_told number_one _ (λ κs a. tt) (λ κs a r s p. p)
 
 seq_told_promise : Promise seq-told.Pre seq-told.Post (λ κs r s. r)
-seq_told_promise = by_code seqTold seq-one _ (λ κs a. tt) (λ κs a r s p. p)
+seq_told_promise = by_code seq_told seq-one _ (λ κs a. tt) (λ κs a r s p. p)
 
 range_told_promise : Promise range-told.Pre range-told.Post (λ κs r s. r)
-range_told_promise = by_code rangeTold range_one _ (λ κs a. tt) (λ κs a r s p. p)
+range_told_promise = by_code range_told range_one _ (λ κs a. tt) (λ κs a r s p. p)
 
 truth_told_promise : Promise truth-told.Pre truth-told.Post (λ κs r s. r)
-truth_told_promise = by_code truthTold truth_one _ (λ κs a. tt) (λ κs a r s p. p)
+truth_told_promise = by_code truth_told truth_one _ (λ κs a. tt) (λ κs a r s p. p)
 
 any_told_promise : Promise any_told.Pre any_told.Post (λ κs r s. r)
-any_told_promise = by_code truthTold truth_one _ (λ κs a. tt) (λ κs a r s p. p)
+any_told_promise = by_code truth_told truth_one _ (λ κs a. tt) (λ κs a r s p. p)
 
 last_acked_promise : Promise last_acked.Pre last_acked.Post (λ κs r s. r)
 last_acked_promise = by_value _ (λ κs a. tt) (λ κs a r s p. p)

@@ -2,7 +2,7 @@
 -- same number and values. Definitions only.
 use Rattle.std.specs.Prelude.{ℕ, Bool}
 use Rattle.common.specs.Answer.{Answer, done, refused}
-use Rattle.packet.specs.Answers.{sackNumber}
+use Rattle.packet.specs.Answers.{sack_number}
 use Rattle.seq.specs.declared.SeqNum.{SeqNum}
 use Rattle.seq.specs.declared.CircularRangeInclusive.{CircularRangeInclusive}
 use Rattle.outgoing.specs.declared.answer.Reason.{Reason}
@@ -21,36 +21,36 @@ use Rattle.outgoing.specs.declared.answer.LostPacket.{LostPacket}
 use Rattle.outgoing.specs.declared.answer.LostTold.{LostTold}
 use Rattle.outgoing.specs.declared.answer.LostTold.TheVariants.{Lost, Refused as LostRefused}
 
-abbrev pub reasonNumber : Reason → ℕ
-reasonNumber (BadSack r) = sackNumber r
-reasonNumber BadSetting = 10
-reasonNumber BadTime = 11
-reasonNumber NotSent = 12
-reasonNumber NoWindow = 13
-reasonNumber NoPlace = 14
-reasonNumber TooMany = 15
-reasonNumber NotSound = 19
+abbrev pub reason_number : Reason → ℕ
+reason_number (BadSack r) = sack_number r
+reason_number BadSetting = 10
+reason_number BadTime = 11
+reason_number NotSent = 12
+reason_number NoWindow = 13
+reason_number NoPlace = 14
+reason_number TooMany = 15
+reason_number NotSound = 19
 
 abbrev pub outcome : Outcome → Answer (Unit {0})
 outcome Done = done tt
-outcome (Refused r) = refused (reasonNumber r)
+outcome (Refused r) = refused (reason_number r)
 
-abbrev pub numberTold : NumberTold → Answer ℕ
-numberTold (Number n) = done n
-numberTold (NumberRefused r) = refused (reasonNumber r)
+abbrev pub number_told : NumberTold → Answer ℕ
+number_told (Number n) = done n
+number_told (NumberRefused r) = refused (reason_number r)
 
-abbrev pub seqTold : SeqTold → Answer SeqNum
-seqTold (Seq n) = done n
-seqTold (SeqRefused r) = refused (reasonNumber r)
+abbrev pub seq_told : SeqTold → Answer SeqNum
+seq_told (Seq n) = done n
+seq_told (SeqRefused r) = refused (reason_number r)
 
-abbrev pub rangeTold : RangeTold → Answer CircularRangeInclusive
-rangeTold (Range n) = done n
-rangeTold (RangeRefused r) = refused (reasonNumber r)
+abbrev pub range_told : RangeTold → Answer CircularRangeInclusive
+range_told (Range n) = done n
+range_told (RangeRefused r) = refused (reason_number r)
 
-abbrev pub truthTold : TruthTold → Answer Bool
-truthTold (Truth b) = done b
-truthTold (TruthRefused r) = refused (reasonNumber r)
+abbrev pub truth_told : TruthTold → Answer Bool
+truth_told (Truth b) = done b
+truth_told (TruthRefused r) = refused (reason_number r)
 
-abbrev pub lostTold : LostTold → Answer LostPacket
-lostTold (Lost p) = done p
-lostTold (LostRefused r) = refused (reasonNumber r)
+abbrev pub lost_told : LostTold → Answer LostPacket
+lost_told (Lost p) = done p
+lost_told (LostRefused r) = refused (reason_number r)

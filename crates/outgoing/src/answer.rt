@@ -1,6 +1,6 @@
 // What the tracker's functions answer. Each refusal holds its reason.
 ghost use Rattle.std.specs.Prelude.{◌≡◌};
-ghost use Rattle.outgoing.specs.Answers.{reasonNumber};
+ghost use Rattle.outgoing.specs.Answers.{reason_number};
 
 use packet::kind::PacketType;
 use packet::sack::SackReason;
@@ -25,7 +25,7 @@ pub enum Reason {
 impl Reason {
     // The number of the refusal.
     pub fn number(self) -> u32
-        ensures { result ≡ reasonNumber self }
+        ensures { result ≡ reason_number self }
     {
         match self {
             Reason::BadSack(reason) => reason.number(),

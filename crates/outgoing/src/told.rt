@@ -1,13 +1,13 @@
 // What a question about a tracker is answered: 19 where the state is not sound.
 ghost use Rattle.std.specs.Prelude.{◌-◌, ◌≡◌};
-ghost use Rattle.outgoing.specs.Answers.{numberTold, seqTold, rangeTold, truthTold};
+ghost use Rattle.outgoing.specs.Answers.{number_told, seq_told, range_told, truth_told};
 ghost use Rattle.outgoing.specs.Read.{told_of, any_of, last_acked_of};
 
 use crate::answer::{NumberTold, RangeTold, Reason, SeqTold, TruthTold};
 use seq::{CircularRangeInclusive, SeqNum};
 
 pub fn number_told(sound: bool, number: u64) -> NumberTold
-    ensures { numberTold result ≡ told_of sound number }
+    ensures { number_told result ≡ told_of sound number }
 {
     if sound {
         NumberTold::Number(number)
@@ -17,7 +17,7 @@ pub fn number_told(sound: bool, number: u64) -> NumberTold
 }
 
 pub fn seq_told(sound: bool, number: SeqNum) -> SeqTold
-    ensures { seqTold result ≡ told_of sound number }
+    ensures { seq_told result ≡ told_of sound number }
 {
     if sound {
         SeqTold::Seq(number)
@@ -27,7 +27,7 @@ pub fn seq_told(sound: bool, number: SeqNum) -> SeqTold
 }
 
 pub fn range_told(sound: bool, range: CircularRangeInclusive) -> RangeTold
-    ensures { rangeTold result ≡ told_of sound range }
+    ensures { range_told result ≡ told_of sound range }
 {
     if sound {
         RangeTold::Range(range)
@@ -37,7 +37,7 @@ pub fn range_told(sound: bool, range: CircularRangeInclusive) -> RangeTold
 }
 
 pub fn truth_told(sound: bool, truth: bool) -> TruthTold
-    ensures { truthTold result ≡ told_of sound truth }
+    ensures { truth_told result ≡ told_of sound truth }
 {
     if sound {
         TruthTold::Truth(truth)
@@ -48,7 +48,7 @@ pub fn truth_told(sound: bool, truth: bool) -> TruthTold
 
 // Whether there is one, where it was told how many.
 pub fn any_told(count: NumberTold) -> TruthTold
-    ensures { truthTold result ≡ any_of (numberTold count) }
+    ensures { truth_told result ≡ any_of (number_told count) }
 {
     match count {
         NumberTold::Number(n) => TruthTold::Truth(0 < n),

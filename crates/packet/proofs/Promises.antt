@@ -3,7 +3,7 @@ use Prim.Native.Nat.{ℕ}
 use mathlib.Core.List.{List}
 use mathlib.Core.Path.{◌∙◌, sym}
 use Rattle.common.specs.Promise.{Promise, by_value, by_code}
-use Rattle.packet.specs.Answers.{typeRead, checked, stepped, decoded, encoded}
+use Rattle.packet.specs.Answers.{type_read, checked, stepped, decoded, encoded}
 use Rattle.packet.specs.Laws.OneToOne.{type_read_one_to_one, checked_one_to_one, stepped_one_to_one, decoded_one_to_one, encoded_one_to_one}
 use Rattle.packet.specs.declared.encode.Encoded.{Encoded}
 use Rattle.packet.proofs.kind.PacketType.number.Reads as number
@@ -27,7 +27,7 @@ number_promise : Promise number.Pre number.Post (λ κs r s. r)
 number_promise = by_value _ (λ κs a. tt) (λ κs a r s p. p)
 
 of_number_promise : Promise of_number.Pre of_number.Post (λ κs r s. r)
-of_number_promise = by_code typeRead type_read_one_to_one _ (λ κs a. tt) (λ κs a r s p. p)
+of_number_promise = by_code type_read type_read_one_to_one _ (λ κs a. tt) (λ κs a r s p. p)
 
 -- ---- sack
 

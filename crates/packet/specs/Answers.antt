@@ -30,18 +30,18 @@ use Rattle.packet.specs.declared.encode.Found.TheVariants.{Fit, Unfit}
 use Rattle.packet.specs.declared.encode.Encoded.{Encoded}
 use Rattle.packet.specs.declared.encode.Encoded.TheVariants.{Written, Refused}
 
-abbrev pub typeRead : TypeRead → Answer PacketType
-typeRead (Known t) = done t
-typeRead TypeUnknown = refused 2
+abbrev pub type_read : TypeRead → Answer PacketType
+type_read (Known t) = done t
+type_read TypeUnknown = refused 2
 
-abbrev pub sackNumber : SackReason → ℕ
-sackNumber SackShort = 5
-sackNumber SackNotWords = 6
-sackNumber SackLong = 8
+abbrev pub sack_number : SackReason → ℕ
+sack_number SackShort = 5
+sack_number SackNotWords = 6
+sack_number SackLong = 8
 
 abbrev pub checked : Checked → Answer ℕ
 checked (Fine n) = done n
-checked (Bad r) = refused (sackNumber r)
+checked (Bad r) = refused (sack_number r)
 
 abbrev pub stepped : Step → Answer Next
 stepped Ends = done ends
@@ -52,35 +52,35 @@ abbrev pub ended : End → Answer ℕ
 ended (At n) = done n
 ended EndPast = refused 4
 
-abbrev pub chainRead : ChainRead → Answer (Sacked × ℕ)
-chainRead (Plain at) = done (nowhere, at)
-chainRead (WithSack p at) = done (inside p, at)
-chainRead ReadPast = refused 4
+abbrev pub chain_read : ChainRead → Answer (Sacked × ℕ)
+chain_read (Plain at) = done (nowhere, at)
+chain_read (WithSack p at) = done (inside p, at)
+chain_read ReadPast = refused 4
 
-abbrev pub headerNumber : HeaderReason → ℕ
-headerNumber TooShort = 1
-headerNumber UnknownType = 2
-headerNumber UnknownVersion = 3
+abbrev pub header_number : HeaderReason → ℕ
+header_number TooShort = 1
+header_number UnknownType = 2
+header_number UnknownVersion = 3
 
-abbrev pub reasonNumber : Reason → ℕ
-reasonNumber (BadHeader r) = headerNumber r
-reasonNumber Extension = 4
-reasonNumber (BadSack r) = sackNumber r
-reasonNumber EmptyData = 7
+abbrev pub reason_number : Reason → ℕ
+reason_number (BadHeader r) = header_number r
+reason_number Extension = 4
+reason_number (BadSack r) = sack_number r
+reason_number EmptyData = 7
 
 abbrev pub decoded : Decoded → Answer Packet
 decoded (Accepted p) = done p
-decoded (Undecoded r) = refused (reasonNumber r)
+decoded (Undecoded r) = refused (reason_number r)
 
-abbrev pub unwrittenNumber : Unwritten → ℕ
-unwrittenNumber (UnwrittenSack r) = sackNumber r
-unwrittenNumber UnwrittenData = 7
-unwrittenNumber NoRoom = 9
+abbrev pub unwritten_number : Unwritten → ℕ
+unwritten_number (UnwrittenSack r) = sack_number r
+unwritten_number UnwrittenData = 7
+unwritten_number NoRoom = 9
 
 abbrev pub found : Found → Answer ℕ
 found (Fit n) = done n
-found (Unfit r) = refused (unwrittenNumber r)
+found (Unfit r) = refused (unwritten_number r)
 
 abbrev pub encoded : Encoded → Answer ℕ
 encoded (Written n) = done n
-encoded (Refused r) = refused (unwrittenNumber r)
+encoded (Refused r) = refused (unwritten_number r)

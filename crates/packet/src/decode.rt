@@ -2,7 +2,7 @@
 ghost use Rattle.std.specs.Prelude.{◌-◌, ◌≤◌, ◌≡◌, length};
 ghost use Rattle.common.specs.Answer.{done};
 ghost use Rattle.packet.specs.Decode.{decode_of, behind_header, chain_of, packet_of, payload_answer};
-ghost use Rattle.packet.specs.Answers.{reasonNumber, decoded};
+ghost use Rattle.packet.specs.Answers.{reason_number, decoded};
 
 use crate::extension::{ChainRead, Cursor, Part, read_chain};
 use crate::header::{Header, HeaderReason, is_empty_data, read_header};
@@ -36,7 +36,7 @@ pub enum Decoded {
 impl Reason {
     // The number of the refusal.
     pub fn number(self) -> u32
-        ensures { result ≡ reasonNumber self }
+        ensures { result ≡ reason_number self }
     {
         match self {
             Reason::BadHeader(reason) => reason.number(),

@@ -4,7 +4,7 @@ ghost use Rattle.common.specs.Laws.Put.{put};
 ghost use Rattle.packet.specs.Encode.{encode_of, room_of, packet_bytes, size_of, data_answer};
 ghost use Rattle.packet.specs.Sack.{mask_answer};
 ghost use Rattle.common.specs.Answer.{◌then◌};
-ghost use Rattle.packet.specs.Answers.{unwrittenNumber, found, encoded};
+ghost use Rattle.packet.specs.Answers.{unwritten_number, found, encoded};
 
 use crate::decode::Packet;
 use crate::header::{Header, is_empty_data, put_header};
@@ -28,7 +28,7 @@ pub enum Encoded {
 impl Unwritten {
     // The number of the refusal.
     pub fn number(self) -> u32
-        ensures { result ≡ unwrittenNumber self }
+        ensures { result ≡ unwritten_number self }
     {
         match self {
             Unwritten::BadSack(reason) => reason.number(),

@@ -2,7 +2,7 @@
 ghost use Rattle.std.specs.Prelude.{◌≡◌};
 ghost use Rattle.packet.specs.Chain.{step_of, chain_from, end_of, read_of};
 ghost use Rattle.packet.specs.Decode.{part_of};
-ghost use Rattle.packet.specs.Answers.{stepped, ended, chainRead};
+ghost use Rattle.packet.specs.Answers.{stepped, ended, chain_read};
 
 // A part of a datagram, by its place and length.
 #[derive(Drop)]
@@ -121,7 +121,7 @@ pub(crate) fn chain_end(datagram: &[u8], from: Cursor) -> End
 
 // Walks the whole chain and keeps its first SACK.
 pub(crate) fn read_chain(datagram: &[u8], from: Cursor) -> ChainRead
-    ensures { chainRead result ≡ read_of (chain_from datagram.now from) }
+    ensures { chain_read result ≡ read_of (chain_from datagram.now from) }
 {
     let mut cursor = from;
     loop {

@@ -2,7 +2,7 @@
 ghost use Rattle.std.specs.Prelude.{◌+◌, ◌*◌, ◌≤◌, ◌≡◌, length};
 ghost use Rattle.common.specs.Laws.Put.{put};
 ghost use Rattle.packet.specs.Layout.{widths, bytes_of, fields_of_header, header_with, empty_data};
-ghost use Rattle.packet.specs.Answers.{headerNumber};
+ghost use Rattle.packet.specs.Answers.{header_number};
 
 use crate::kind::PacketType;
 use crate::number::{put16, put32, read16, read32};
@@ -32,7 +32,7 @@ pub enum HeaderReason {
 impl HeaderReason {
     // The number of the refusal.
     pub fn number(self) -> u32
-        ensures { result ≡ headerNumber self }
+        ensures { result ≡ header_number self }
     {
         match self {
             HeaderReason::TooShort => 1,

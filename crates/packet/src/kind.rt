@@ -1,7 +1,7 @@
 // The five types of packets, and their numbers.
 ghost use Rattle.std.specs.Prelude.{◌≡◌};
 ghost use Rattle.packet.specs.Kind.{type_number, type_answer};
-ghost use Rattle.packet.specs.Answers.{typeRead};
+ghost use Rattle.packet.specs.Answers.{type_read};
 
 #[derive(Drop)]
 pub enum PacketType {
@@ -34,7 +34,7 @@ impl PacketType {
 
     // The type of a number, which is unknown (2) above 4.
     pub fn of_number(n: u8) -> TypeRead
-        ensures { typeRead result ≡ type_answer n }
+        ensures { type_read result ≡ type_answer n }
     {
         match n {
             0 => TypeRead::Known(PacketType::Data),

@@ -1,7 +1,7 @@
 // The selective ACK: a mask of bits, the lowest of the first byte first. Bit 0 means ack + 2.
 ghost use Rattle.std.specs.Prelude.{◌≡◌, ◌/◌, ◌%◌, ◌^◌, eqb};
 ghost use Rattle.packet.specs.Sack.{bit_count_of, bit_of, meant_by, mask_answer};
-ghost use Rattle.packet.specs.Answers.{sackNumber, checked};
+ghost use Rattle.packet.specs.Answers.{sack_number, checked};
 
 use seq::SeqNum;
 
@@ -23,7 +23,7 @@ pub enum Checked {
 impl SackReason {
     // The number of the refusal.
     pub fn number(self) -> u32
-        ensures { result ≡ sackNumber self }
+        ensures { result ≡ sack_number self }
     {
         match self {
             SackReason::SackShort => 5,

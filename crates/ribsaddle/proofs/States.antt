@@ -12,7 +12,7 @@ use denote.Struct.Field.{u8-field, u32-field, u64-field, array_field}
 use denote.Struct.Members.{Member, rows_of}
 use denote.Struct.Laws as LL
 use Rattle.recv.specs.declared.ReceiveBuffer.{ReceiveBuffer}
-use Rattle.sent_lent.specs.Lent.{head_of, marks_of, pairs_of, sizes_of, times_of, whole_in as sentIn}
+use Rattle.sent_lent.specs.Lent.{head_of, marks_of, pairs_of, sizes_of, times_of, whole_in as sent_in}
 use Rattle.sent.specs.declared.state.SentPackets.{SentPackets}
 use Rattle.sent_lent.specs.contracts.head.Head as Hd
 use Rattle.sent_lent.proofs.head.Head.TheLaws as Hd'
@@ -30,7 +30,7 @@ use Rattle.ribsaddle.specs.contracts.tracker.Starting as Start
 use Rattle.ribsaddle.proofs.tracker.Starting.TheLaws as Start'
 use Rattle.ribsaddle.specs.contracts.tracker.Tracker as T
 use Rattle.ribsaddle.proofs.tracker.Tracker.TheLaws as T'
-use Rattle.ribsaddle.specs.Tracker.{Sized, parts_of as sentParts, whole_of as sentWhole}
+use Rattle.ribsaddle.specs.Tracker.{Sized, parts_of as sent_parts, whole_of as sent_whole}
 use Rattle.ribsaddle.specs.declared.tracker.Tracker.{Tracker}
 use Rattle.recv.specs.Lent.{counts_of, whole}
 use Rattle.ribsaddle.specs.Parts.{parts_of, whole_of}
@@ -178,24 +178,24 @@ tracker_lawful M 𝓤 𝓛 = LL.lawfuls 𝓛 (T.the_type).parts T'.the_laws
 
 -- the state that head and arrays in memory make up
 abbrev in_memory : Tracker → SentPackets
-in_memory t = sentIn t.head (tracker_to t).1.0 (tracker_to t).1.1.0 (tracker_to t).1.1.1.0 (tracker_to t).1.1.1.1.0
+in_memory t = sent_in t.head (tracker_to t).1.0 (tracker_to t).1.1.0 (tracker_to t).1.1.1.0 (tracker_to t).1.1.1.1.0
 
-pub sent_stored : (t : Tracker) {X : Type 0} (f : SentPackets → X) → f (in_memory t) ≡ f (sentWhole t)
-sent_stored t f = λ i. f (sentIn t.head (map-id t.samples i) (map-id t.times i) (map-id t.sizes i) (map-id t.marks i))
+pub sent_stored : (t : Tracker) {X : Type 0} (f : SentPackets → X) → f (in_memory t) ≡ f (sent_whole t)
+sent_stored t f = λ i. f (sent_in t.head (map-id t.samples i) (map-id t.times i) (map-id t.sizes i) (map-id t.marks i))
 
 pub sent-next :
     (t : Tracker) (f : SentPackets → SentPackets)
     → (head.T.to (head_of (f (in_memory t))), (pairs_of (f (in_memory t)).delays.kept, (times_of (f (in_memory t)).packets, (sizes_of (f (in_memory t)).packets, (marks_of (f (in_memory t)).packets, tt)))))
-    ≡ tracker_to (sentParts (f (sentWhole t)))
+    ≡ tracker_to (sent_parts (f (sent_whole t)))
 sent-next t f = λ i. (
   head.T.to (head_of (sent_stored t f i)),
   (
-    (sent_stored t (λ s. pairs_of (f s).delays.kept) ∙ sym (map-id (pairs_of (f (sentWhole t)).delays.kept))) i,
+    (sent_stored t (λ s. pairs_of (f s).delays.kept) ∙ sym (map-id (pairs_of (f (sent_whole t)).delays.kept))) i,
     (
-      (sent_stored t (λ s. times_of (f s).packets) ∙ sym (map-id (times_of (f (sentWhole t)).packets))) i,
+      (sent_stored t (λ s. times_of (f s).packets) ∙ sym (map-id (times_of (f (sent_whole t)).packets))) i,
       (
-        (sent_stored t (λ s. sizes_of (f s).packets) ∙ sym (map-id (sizes_of (f (sentWhole t)).packets))) i,
-        ((sent_stored t (λ s. marks_of (f s).packets) ∙ sym (map-id (marks_of (f (sentWhole t)).packets))) i, tt),
+        (sent_stored t (λ s. sizes_of (f s).packets) ∙ sym (map-id (sizes_of (f (sent_whole t)).packets))) i,
+        ((sent_stored t (λ s. marks_of (f s).packets) ∙ sym (map-id (marks_of (f (sent_whole t)).packets))) i, tt),
       ),
     ),
   ),

@@ -2,7 +2,7 @@
 use Rattle.std.specs.Prelude.{ℕ, Bool, List, length}
 use Rattle.common.specs.Answer.{Answer, done, refused}
 use Rattle.seq.specs.declared.SeqNum.{SeqNum}
-use Rattle.recv.specs.Numbers.{number_of as refusalNumber}
+use Rattle.recv.specs.Numbers.{number_of as refusal_number}
 use Rattle.recv.specs.State.{created_of}
 use Rattle.recv.specs.Calls.{written_of, taken_of, acked_of}
 use Rattle.recv.specs.declared.Count.{Count}
@@ -25,28 +25,28 @@ use Rattle.ribsaddle.specs.declared.receiver.Receiving.{Receiving}
 
 abbrev pub count_answer : Count → Answer ℕ
 count_answer (count_is n) = done n
-count_answer (count-refused why) = refused (refusalNumber why)
+count_answer (count-refused why) = refused (refusal_number why)
 
 abbrev pub truth_answer : Truth → Answer Bool
 truth_answer (truth-is b) = done b
-truth_answer (truth-refused why) = refused (refusalNumber why)
+truth_answer (truth-refused why) = refused (refusal_number why)
 
 abbrev pub number_answer : Number → Answer SeqNum
 number_answer (number_is n) = done n
-number_answer (number-refused why) = refused (refusalNumber why)
+number_answer (number-refused why) = refused (refusal_number why)
 
 -- "Already there" counts as done.
 abbrev pub writing_number : Writing → ℕ
 writing_number Stored = 0
 writing_number AlreadyThere = 0
-writing_number (writing-refused why) = refusalNumber why
+writing_number (writing-refused why) = refusal_number why
 
 -- ---- what a call answers, and the state after it
 
 -- A new receiver is stored where the length is in range; else what stood there stays.
 abbrev pub created_as : ReceiveBuffer → Creation → ReceiveBuffer → Receiving
 created_as old Made state = record { answer = 0; state = state }
-created_as old (creation-refused why) state = record { answer = refusalNumber why; state = old }
+created_as old (creation-refused why) state = record { answer = refusal_number why; state = old }
 
 unfoldable pub new_of : ReceiveBuffer → ℕ → ℕ → Receiving
 new_of old initial length = created_as old (created_of (record { 0 = initial }) length).answer (created_of (record { 0 = initial }) length).state

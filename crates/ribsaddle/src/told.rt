@@ -1,6 +1,6 @@
 // What is read of a state: its number is answered, and its value goes to the caller's memory.
 ghost use Rattle.std.specs.Prelude.{◌≡◌};
-ghost use Rattle.outgoing.specs.Answers.{numberTold, seqTold, rangeTold, truthTold, lostTold};
+ghost use Rattle.outgoing.specs.Answers.{number_told, seq_told, range_told, truth_told, lost_told};
 ghost use Rattle.ribsaddle.specs.Answer.{number_of, part_or, value_or, bit_of};
 ghost use Rattle.ribsaddle.specs.Tracker.{seq_of, start_of, end_of, lost_number_of, lost_type_of, lost_tag_of};
 ghost use Rattle.ribsaddle.specs.Receiver.{count_answer, truth_answer, number_answer};
@@ -21,7 +21,7 @@ fn wide(n: u16) -> u64
 }
 
 pub(crate) fn tell_number(told: NumberTold, value: &mut u64) -> u32
-    ensures { (result ≡ number_of (numberTold told)) × (value.new ≡ value_or value.old (numberTold told)) }
+    ensures { (result ≡ number_of (number_told told)) × (value.new ≡ value_or value.old (number_told told)) }
 {
     match told {
         NumberTold::Number(n) => {
@@ -33,7 +33,7 @@ pub(crate) fn tell_number(told: NumberTold, value: &mut u64) -> u32
 }
 
 pub(crate) fn tell_seq(told: SeqTold, value: &mut u64) -> u32
-    ensures { (result ≡ number_of (seqTold told)) × (value.new ≡ part_or seq_of value.old (seqTold told)) }
+    ensures { (result ≡ number_of (seq_told told)) × (value.new ≡ part_or seq_of value.old (seq_told told)) }
 {
     match told {
         SeqTold::Seq(n) => {
@@ -45,7 +45,7 @@ pub(crate) fn tell_seq(told: SeqTold, value: &mut u64) -> u32
 }
 
 pub(crate) fn tell_truth(told: TruthTold, value: &mut u64) -> u32
-    ensures { (result ≡ number_of (truthTold told)) × (value.new ≡ part_or bit_of value.old (truthTold told)) }
+    ensures { (result ≡ number_of (truth_told told)) × (value.new ≡ part_or bit_of value.old (truth_told told)) }
 {
     match told {
         TruthTold::Truth(truth) => {
@@ -57,8 +57,8 @@ pub(crate) fn tell_truth(told: TruthTold, value: &mut u64) -> u32
 }
 
 pub(crate) fn tell_range(told: RangeTold, start: &mut u64, end: &mut u64) -> u32
-    ensures { (result ≡ number_of (rangeTold told)) × (start.new ≡ part_or start_of start.old (rangeTold told))
-        × (end.new ≡ part_or end_of end.old (rangeTold told)) }
+    ensures { (result ≡ number_of (range_told told)) × (start.new ≡ part_or start_of start.old (range_told told))
+        × (end.new ≡ part_or end_of end.old (range_told told)) }
 {
     match told {
         RangeTold::Range(range) => {
@@ -76,9 +76,9 @@ pub(crate) fn tell_lost(
     packet_type: &mut u64,
     tag: &mut u64,
 ) -> u32
-    ensures { (result ≡ number_of (lostTold told)) × (number.new ≡ part_or lost_number_of number.old (lostTold told))
-        × (packet_type.new ≡ part_or lost_type_of packet_type.old (lostTold told))
-        × (tag.new ≡ part_or lost_tag_of tag.old (lostTold told)) }
+    ensures { (result ≡ number_of (lost_told told)) × (number.new ≡ part_or lost_number_of number.old (lost_told told))
+        × (packet_type.new ≡ part_or lost_type_of packet_type.old (lost_told told))
+        × (tag.new ≡ part_or lost_tag_of tag.old (lost_told told)) }
 {
     match told {
         LostTold::Lost(lost) => {

@@ -2,7 +2,7 @@
 // first.
 ghost use Rattle.std.specs.Prelude.{◌≡◌, ◌≤◌, ◌<◌, ◌-◌, ◌+◌};
 ghost use Rattle.std.proofs.Math.Seq.{slice};
-ghost use Rattle.outgoing.specs.Answers.{numberTold, truthTold, lostTold};
+ghost use Rattle.outgoing.specs.Answers.{number_told, truth_told, lost_told};
 ghost use Rattle.outgoing.specs.Lost.{lost_count_of, nth_lost, lost_place_of, lost_at_of};
 ghost use Rattle.outgoing.specs.Read.{lost_count_in, has_lost_in};
 ghost use Rattle.sent.specs.State.{read_of, when_state_sound, tracker_of};
@@ -65,7 +65,7 @@ fn place_at(packets: [Packet; 512], wrap: usize, live: usize, wrapped: u32, posi
 impl SentPackets {
     // How many packets are lost. Refused with 19.
     pub fn lost_count(self) -> NumberTold
-        ensures { numberTold result ≡ read_of self lost_count_in }
+        ensures { number_told result ≡ read_of self lost_count_in }
     {
         if !self.sound() {
             return NumberTold::Refused(Reason::NotSound);
@@ -76,7 +76,7 @@ impl SentPackets {
 
     // Is a packet lost? Refused with 19.
     pub fn has_lost_packets(self) -> TruthTold
-        ensures { truthTold result ≡ read_of self has_lost_in }
+        ensures { truth_told result ≡ read_of self has_lost_in }
     {
         any_told(self.lost_count())
     }
@@ -84,7 +84,7 @@ impl SentPackets {
     // The lost packet at a position of the list, from 0. Refused with 19, and with 12 at or past the
     // count.
     pub fn lost_at(self, position: u32) -> LostTold
-        ensures { lostTold result ≡ when_state_sound self (lost_at_of (tracker_of self) position) }
+        ensures { lost_told result ≡ when_state_sound self (lost_at_of (tracker_of self) position) }
     {
         if !self.sound() {
             return LostTold::Refused(Reason::NotSound);

@@ -5,7 +5,7 @@ use mathlib.Core.List.{List}
 use Prim.Native.Nat.{ℕ}
 use Rattle.common.specs.Answer.{Answer}
 use Rattle.common.specs.Promise.{Promise, by_value, by_code}
-use Rattle.outgoing.specs.Answers.{numberTold, seqTold, rangeTold, truthTold, lostTold}
+use Rattle.outgoing.specs.Answers.{number_told, seq_told, range_told, truth_told, lost_told}
 use Rattle.outgoing.specs.Laws.OneToOne.{number_one, seq-one, range_one, truth_one, lost_one_lem}
 use Rattle.sent_lent.specs.declared.head.Head.{Head}
 use Rattle.sent_lent.specs.declared.head.Stepped.{Stepped}
@@ -59,34 +59,34 @@ on_timeout_promise : Promise on-timeout.Pre on-timeout.Post (λ κs r s. r)
 on_timeout_promise = by_code stepped stepped-one _ (λ κs a. tt) (λ κs a r s p. p)
 
 timeout_promise : Promise timeout.Pre timeout.Post (λ κs r s. r)
-timeout_promise = by_code numberTold number_one _ (λ κs a. tt) (λ κs a r s p. p)
+timeout_promise = by_code number_told number_one _ (λ κs a. tt) (λ κs a r s p. p)
 
 window_promise : Promise window.Pre window.Post (λ κs r s. r)
-window_promise = by_code numberTold number_one _ (λ κs a. tt) (λ κs a r s p. p)
+window_promise = by_code number_told number_one _ (λ κs a. tt) (λ κs a r s p. p)
 
 in_flight_promise : Promise in_flight.Pre in_flight.Post (λ κs r s. r)
-in_flight_promise = by_code numberTold number_one _ (λ κs a. tt) (λ κs a r s p. p)
+in_flight_promise = by_code number_told number_one _ (λ κs a. tt) (λ κs a r s p. p)
 
 maximum_promise : Promise maximum.Pre maximum.Post (λ κs r s. r)
-maximum_promise = by_code numberTold number_one _ (λ κs a. tt) (λ κs a r s p. p)
+maximum_promise = by_code number_told number_one _ (λ κs a. tt) (λ κs a r s p. p)
 
 ack_num_promise : Promise ack-num.Pre ack-num.Post (λ κs r s. r)
-ack_num_promise = by_code seqTold seq-one _ (λ κs a. tt) (λ κs a r s p. p)
+ack_num_promise = by_code seq_told seq-one _ (λ κs a. tt) (λ κs a r s p. p)
 
 next_seq_num_promise : Promise next-seq-num.Pre next-seq-num.Post (λ κs r s. r)
-next_seq_num_promise = by_code seqTold seq-one _ (λ κs a. tt) (λ κs a r s p. p)
+next_seq_num_promise = by_code seq_told seq-one _ (λ κs a. tt) (λ κs a r s p. p)
 
 seq_num_range_promise : Promise seq-num-range.Pre seq-num-range.Post (λ κs r s. r)
-seq_num_range_promise = by_code rangeTold range_one _ (λ κs a. tt) (λ κs a r s p. p)
+seq_num_range_promise = by_code range_told range_one _ (λ κs a. tt) (λ κs a r s p. p)
 
 has_unacked_packets_promise : Promise has-unacked-packets.Pre has-unacked-packets.Post (λ κs r s. r)
-has_unacked_packets_promise = by_code truthTold truth_one _ (λ κs a. tt) (λ κs a r s p. p)
+has_unacked_packets_promise = by_code truth_told truth_one _ (λ κs a. tt) (λ κs a r s p. p)
 
 lost_count_promise : Promise lost-count.Pre lost-count.Post (λ κs r s. r)
-lost_count_promise = by_code numberTold number_one _ (λ κs a. tt) (λ κs a r s p. p)
+lost_count_promise = by_code number_told number_one _ (λ κs a. tt) (λ κs a r s p. p)
 
 has_lost_packets_promise : Promise has-lost-packets.Pre has-lost-packets.Post (λ κs r s. r)
-has_lost_packets_promise = by_code truthTold truth_one _ (λ κs a. tt) (λ κs a r s p. p)
+has_lost_packets_promise = by_code truth_told truth_one _ (λ κs a. tt) (λ κs a r s p. p)
 
 lost_at_promise : Promise lost_at.Pre lost_at.Post (λ κs r s. r)
-lost_at_promise = by_code lostTold lost_one_lem _ (λ κs a. tt) (λ κs a r s p. p)
+lost_at_promise = by_code lost_told lost_one_lem _ (λ κs a. tt) (λ κs a r s p. p)

@@ -1,7 +1,7 @@
 // The tracker in lent memory: each call of `SentPackets` for a caller that keeps the tracker in place.
 // The head goes by value, the arrays are lent, and nothing of them is copied.
 ghost use Rattle.std.specs.Prelude.{◌≡◌, true, ◌≤◌, ◌<◌, ◌-◌, ◌+◌, length};
-ghost use Rattle.outgoing.specs.Answers.{outcome, numberTold, seqTold, rangeTold, truthTold, lostTold};
+ghost use Rattle.outgoing.specs.Answers.{outcome, number_told, seq_told, range_told, truth_told, lost_told};
 ghost use Rattle.sent_lent.specs.Lent.{Places, whole_in, stepped, headed, times_of, sizes_of, marks_of, pairs_of};
 ghost use Rattle.outgoing.specs.Lost.{lost_at_of};
 ghost use Rattle.outgoing.specs.Read.{timeout_in, window_in, in_flight_in, maximum_in, ack_num_in, next_seq_num_in, seq_num_range_in, has_unacked_in, lost_count_in, has_lost_in};
@@ -408,7 +408,7 @@ impl Head {
         marks: &[u8; 2048],
     ) -> NumberTold
         ensures { let s = whole_in self samples.now times.now sizes.now marks.now in
-            numberTold result ≡ read_of s timeout_in }
+            number_told result ≡ read_of s timeout_in }
     {
         let sound = self.sound(samples, times, sizes, marks);
         number_told(sound, self.numbers.timeout)
@@ -423,7 +423,7 @@ impl Head {
         marks: &[u8; 2048],
     ) -> NumberTold
         ensures { let s = whole_in self samples.now times.now sizes.now marks.now in
-            numberTold result ≡ read_of s window_in }
+            number_told result ≡ read_of s window_in }
     {
         let sound = self.sound(samples, times, sizes, marks);
         let numbers = self.numbers;
@@ -439,7 +439,7 @@ impl Head {
         marks: &[u8; 2048],
     ) -> NumberTold
         ensures { let s = whole_in self samples.now times.now sizes.now marks.now in
-            numberTold result ≡ read_of s in_flight_in }
+            number_told result ≡ read_of s in_flight_in }
     {
         let sound = self.sound(samples, times, sizes, marks);
         number_told(sound, self.numbers.in_flight as u64)
@@ -454,7 +454,7 @@ impl Head {
         marks: &[u8; 2048],
     ) -> NumberTold
         ensures { let s = whole_in self samples.now times.now sizes.now marks.now in
-            numberTold result ≡ read_of s maximum_in }
+            number_told result ≡ read_of s maximum_in }
     {
         let sound = self.sound(samples, times, sizes, marks);
         number_told(sound, self.numbers.maximum as u64)
@@ -469,7 +469,7 @@ impl Head {
         marks: &[u8; 2048],
     ) -> SeqTold
         ensures { let s = whole_in self samples.now times.now sizes.now marks.now in
-            seqTold result ≡ read_of s ack_num_in }
+            seq_told result ≡ read_of s ack_num_in }
     {
         tell_places(*samples, *times, *sizes, *marks);
         let sound = self.is_sound(samples, times, sizes, marks);
@@ -486,7 +486,7 @@ impl Head {
         marks: &[u8; 2048],
     ) -> SeqTold
         ensures { let s = whole_in self samples.now times.now sizes.now marks.now in
-            seqTold result ≡ read_of s next_seq_num_in }
+            seq_told result ≡ read_of s next_seq_num_in }
     {
         let sound = self.sound(samples, times, sizes, marks);
         let number = SeqNum(self.initial).at(self.count).plus(1);
@@ -502,7 +502,7 @@ impl Head {
         marks: &[u8; 2048],
     ) -> RangeTold
         ensures { let s = whole_in self samples.now times.now sizes.now marks.now in
-            rangeTold result ≡ read_of s seq_num_range_in }
+            range_told result ≡ read_of s seq_num_range_in }
     {
         let sound = self.sound(samples, times, sizes, marks);
         let start = SeqNum(self.initial);
@@ -519,7 +519,7 @@ impl Head {
         marks: &[u8; 2048],
     ) -> TruthTold
         ensures { let s = whole_in self samples.now times.now sizes.now marks.now in
-            truthTold result ≡ read_of s has_unacked_in }
+            truth_told result ≡ read_of s has_unacked_in }
     {
         tell_places(*samples, *times, *sizes, *marks);
         let sound = self.is_sound(samples, times, sizes, marks);
@@ -535,7 +535,7 @@ impl Head {
         marks: &[u8; 2048],
     ) -> NumberTold
         ensures { let s = whole_in self samples.now times.now sizes.now marks.now in
-            numberTold result ≡ read_of s lost_count_in }
+            number_told result ≡ read_of s lost_count_in }
     {
         tell_places(*samples, *times, *sizes, *marks);
         if !self.is_sound(samples, times, sizes, marks) {
@@ -554,7 +554,7 @@ impl Head {
         marks: &[u8; 2048],
     ) -> TruthTold
         ensures { let s = whole_in self samples.now times.now sizes.now marks.now in
-            truthTold result ≡ read_of s has_lost_in }
+            truth_told result ≡ read_of s has_lost_in }
     {
         any_told(self.lost_count(samples, times, sizes, marks))
     }
@@ -570,7 +570,7 @@ impl Head {
         position: u32,
     ) -> LostTold
         ensures { let s = whole_in self samples.now times.now sizes.now marks.now in
-            lostTold result ≡ when_state_sound s (lost_at_of (tracker_of s) position) }
+            lost_told result ≡ when_state_sound s (lost_at_of (tracker_of s) position) }
     {
         tell_places(*samples, *times, *sizes, *marks);
         if !self.is_sound(samples, times, sizes, marks) {

@@ -22,21 +22,21 @@ abbrev pub longest : ℕ
 longest = 126
 
 -- Two numbers with a space between them and a character behind them, for the function that writes a part of a line.
-unfoldable pub pairText : ℕ → ℕ → ℕ → List ℕ
-pairText n m end = decimal n ++ (space ∷ (decimal m ++ (end ∷ [])))
+unfoldable pub pair_text : ℕ → ℕ → ℕ → List ℕ
+pair_text n m end = decimal n ++ (space ∷ (decimal m ++ (end ∷ [])))
 
 -- A text goes into the room from a place on, and all the rest of the room is left as it was. 9: there is not room for the longest line.
-unfoldable pub wroteOf : List ℕ → ℕ → List ℕ → Answer ℕ × List ℕ
-wroteOf room at text = cond (leb (at + longest) (length room)) (done (at + length text), put room at text) (refused 9, room)
+unfoldable pub wrote_of : List ℕ → ℕ → List ℕ → Answer ℕ × List ℕ
+wrote_of room at text = cond (leb (at + longest) (length room)) (done (at + length text), put room at text) (refused 9, room)
 
 -- ---- a refused file
 
-abbrev pub badNumber : Bad → ℕ
-badNumber BadSession = 20
-badNumber BadSetting = 10
+abbrev pub bad_number : Bad → ℕ
+bad_number BadSession = 20
+bad_number BadSetting = 10
 
 -- ---- a refused step
 
-abbrev pub stepNumber : StepReason → ℕ
-stepNumber StepBad = 20
-stepNumber NotSound = 19
+abbrev pub step_number : StepReason → ℕ
+step_number StepBad = 20
+step_number NotSound = 19

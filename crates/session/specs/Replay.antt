@@ -25,13 +25,13 @@ use Rattle.session.specs.Format.{event_size, event_of, is_transmit, is_ack, is_k
 use Rattle.session.specs.declared.check.Layout.{Layout}
 use Rattle.session.specs.Check.{event_place, layout_in}
 use Rattle.session.specs.Lines.{seq, number_of, line_text, bad_text}
-use Rattle.session.specs.Answers.{badNumber, longest, stepNumber}
+use Rattle.session.specs.Answers.{bad_number, longest, step_number}
 
 -- ---- the start
 
 abbrev pub start_told : Start → Answer (Unit {0})
 start_told Ready = done tt
-start_told (StartRefused b) = refused (badNumber b)
+start_told (StartRefused b) = refused (bad_number b)
 
 abbrev pub started : Started → Answer (Unit {0}) × Replay
 started s = (start_told s.answer, s.replay)
@@ -75,7 +75,7 @@ start_answer file = start_of file (session_of file)
 abbrev pub told_of : Told → Answer (List Line)
 told_of (EventTold l) = done (l ∷ [])
 told_of Ended = done []
-told_of (StepRefused r) = refused (stepNumber r)
+told_of (StepRefused r) = refused (step_number r)
 
 abbrev pub stepped : Stepped → Answer (List Line) × Replay
 stepped s = (told_of s.told, s.replay)

@@ -1,6 +1,6 @@
 // Document 01's numbers for what the tracker answers.
 ghost use Rattle.std.specs.Prelude.{◌≡◌};
-ghost use Rattle.outgoing.specs.Answers.{outcome, numberTold};
+ghost use Rattle.outgoing.specs.Answers.{outcome, number_told};
 ghost use Rattle.session.specs.Lines.{number_of};
 ghost use Rattle.session.specs.Replay.{value_or};
 
@@ -17,7 +17,7 @@ pub(crate) fn answer_number(answer: Outcome) -> u64
 }
 
 pub(crate) fn value_of(told: NumberTold) -> u64
-    ensures { result ≡ value_or 0 (numberTold told) }
+    ensures { result ≡ value_or 0 (number_told told) }
 {
     match told {
         NumberTold::Number(n) => n,

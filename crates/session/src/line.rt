@@ -2,7 +2,7 @@
 ghost use Rattle.std.specs.Prelude.{◌+◌, ◌≤◌, ◌≡◌, length, ◌++◌, ◌∷◌, [], leb};
 ghost use Rattle.common.specs.Laws.Put.{put};
 ghost use Rattle.session.specs.Lines.{decimal, line_text, bad_text};
-ghost use Rattle.session.specs.Answers.{written, wroteOf, pairText, badNumber};
+ghost use Rattle.session.specs.Answers.{written, wrote_of, pair_text, bad_number};
 
 use crate::number::wide64;
 
@@ -66,7 +66,7 @@ fn put_field(room: &mut [u8], at: usize, n: u64, end: u8) -> usize
 // Writes two numbers with a space between them and a character behind them.
 fn put_pair(room: &mut [u8], at: usize, n: u64, m: u64, end: u8) -> usize
     requires { at + 42 ≤ length room.old }
-    ensures { (result ≡ at + length (pairText n m end)) × (result ≤ at + 42) × (room.new ≡ put room.old at (pairText n m end)) }
+    ensures { (result ≡ at + length (pair_text n m end)) × (result ≤ at + 42) × (room.new ≡ put room.old at (pair_text n m end)) }
 {
     let place = put_field(room, at, n, b' ');
     put_field(room, place, m, end)
@@ -99,7 +99,7 @@ impl Line {
     // Writes the line into the room from a place on. Refused with 9 where there is not room for the
     // longest line; nothing is then written.
     pub fn put(self, room: &mut [u8], at: usize) -> Written
-        ensures { (written result, room.new) ≡ wroteOf room.old at (line_text self) }
+        ensures { (written result, room.new) ≡ wrote_of room.old at (line_text self) }
     {
         if !has_room(room.len(), at) {
             return Written::NoRoom;
@@ -111,7 +111,7 @@ impl Line {
 impl Bad {
     // The number of the refusal.
     pub fn number(self) -> u32
-        ensures { result ≡ badNumber self }
+        ensures { result ≡ bad_number self }
     {
         match self {
             Bad::BadSession => 20,
@@ -122,7 +122,7 @@ impl Bad {
     // Writes the text of a refused file where there is room for it.
     fn put_text(self, room: &mut [u8], at: usize) -> usize
         requires { at + 126 ≤ length room.old }
-        ensures { (result ≡ at + length (bad_text (badNumber self))) × (room.new ≡ put room.old at (bad_text (badNumber self))) }
+        ensures { (result ≡ at + length (bad_text (bad_number self))) × (room.new ≡ put room.old at (bad_text (bad_number self))) }
     {
         room[at] = b'b';
         room[at + 1] = b'a';
@@ -133,7 +133,7 @@ impl Bad {
 
     // Writes the one line of a refused file. Refused with 9 as a line is.
     pub fn put(self, room: &mut [u8], at: usize) -> Written
-        ensures { (written result, room.new) ≡ wroteOf room.old at (bad_text (badNumber self)) }
+        ensures { (written result, room.new) ≡ wrote_of room.old at (bad_text (bad_number self)) }
     {
         if !has_room(room.len(), at) {
             return Written::NoRoom;

@@ -1,6 +1,6 @@
 // Where a replay of a recorded session stands, and what its functions answer.
 ghost use Rattle.std.specs.Prelude.{◌≡◌};
-ghost use Rattle.session.specs.Answers.{stepNumber};
+ghost use Rattle.session.specs.Answers.{step_number};
 
 use crate::line::{Bad, Line};
 use sent::state::SentPackets;
@@ -39,7 +39,7 @@ pub enum StepReason {
 impl StepReason {
     // The number of the refusal.
     pub fn number(self) -> u32
-        ensures { result ≡ stepNumber self }
+        ensures { result ≡ step_number self }
     {
         match self {
             StepReason::BadSession => 20,

@@ -39,7 +39,7 @@ use denote.Struct.Steps.{spelt}
 use denote.Struct.Struct.{Struct, layout, as_fields}
 use denote.Struct.Declared.{shape}
 use denote.Struct.Recorded.{Recorded, Recorded-part}
-use denote.Struct.Members.{Member, row_of as memberRow, rows_of, parts_at}
+use denote.Struct.Members.{Member, row_of as member_row, rows_of, parts_at}
 use denote.Struct.Parts.{shape_of, PartsBack, Struct-parts}
 use denote.Triple.Statement.{Contract, Triple}
 use denote.Triple.Call.{calls_at}
@@ -60,7 +60,7 @@ module _ (S₀ : State) (ν : Sym) (m₁ m₂ m₃ m₄ : Member) (D : Type 0) (
     (spec : S₀.T.D → m₁.row.Denot → m₂.row.Denot → m₃.row.Denot → m₄.row.Denot → O.row.Denot) (set₁ : S₀.T.D → m₁.row.Denot → m₂.row.Denot → m₃.row.Denot → m₄.row.Denot → m₁.row.Denot) (set₂ : S₀.T.D → m₁.row.Denot → m₂.row.Denot → m₃.row.Denot → m₄.row.Denot → m₂.row.Denot) (set₃ : S₀.T.D → m₁.row.Denot → m₂.row.Denot → m₃.row.Denot → m₄.row.Denot → m₃.row.Denot) (set₄ : S₀.T.D → m₁.row.Denot → m₂.row.Denot → m₃.row.Denot → m₄.row.Denot → m₄.row.Denot)
     (ans : D → Ans.X) (next : D → D)
     (ans_is : (d : D) → O.ans (spec (hd d) (to d).1.0 (to d).1.1.0 (to d).1.1.1.0 (to d).1.1.1.1.0) ≡ ans d) (next_is : (d : D) → (S₀.T.to (O.st (spec (hd d) (to d).1.0 (to d).1.1.0 (to d).1.1.1.0 (to d).1.1.1.1.0)), (set₁ (hd d) (to d).1.0 (to d).1.1.0 (to d).1.1.1.0 (to d).1.1.1.1.0, (set₂ (hd d) (to d).1.0 (to d).1.1.0 (to d).1.1.1.0 (to d).1.1.1.1.0, (set₃ (hd d) (to d).1.0 (to d).1.1.0 (to d).1.1.1.0 (to d).1.1.1.1.0, (set₄ (hd d) (to d).1.0 (to d).1.1.0 (to d).1.1.1.0 (to d).1.1.1.1.0, tt))))) ≡ to (next d))
-    (pre_holds : (d : D) (vs₁ : List Val) (vs₂ : List Val) (vs₃ : List Val) (vs₄ : List Val) → Is (memberRow m₁) (to d).1.0 vs₁ → Is (memberRow m₂) (to d).1.1.0 vs₂ → Is (memberRow m₃) (to d).1.1.1.0 vs₃ → Is (memberRow m₄) (to d).1.1.1.1.0 vs₄ → pre (hd d) (to d).1.0 (to d).1.1.0 (to d).1.1.1.0 (to d).1.1.1.1.0) where
+    (pre_holds : (d : D) (vs₁ : List Val) (vs₂ : List Val) (vs₃ : List Val) (vs₄ : List Val) → Is (member_row m₁) (to d).1.0 vs₁ → Is (member_row m₂) (to d).1.1.0 vs₂ → Is (member_row m₃) (to d).1.1.1.0 vs₃ → Is (member_row m₄) (to d).1.1.1.1.0 vs₄ → pre (hd d) (to d).1.0 (to d).1.1.0 (to d).1.1.1.0 (to d).1.1.1.1.0) where
   abbrev Tuple : RattleType
   Tuple = Struct (shape_of ν ((state_member S₀) ∷ m₁ ∷ m₂ ∷ m₃ ∷ m₄ ∷ []))
 
@@ -86,7 +86,7 @@ module _ (S₀ : State) (ν : Sym) (m₁ m₂ m₃ m₄ : Member) (D : Type 0) (
   }
 
   abbrev pub callee : Signature
-  callee = record { lifetimes = 4; outlives = []; params = plain (λ _. state_row S₀) ∷ RefMutOf (0 ∷ []) tt (plain (λ _. memberRow m₁)) (λ _. tt) ∷ RefMutOf (1 ∷ []) tt (plain (λ _. memberRow m₂)) (λ _. tt) ∷ RefMutOf (2 ∷ []) tt (plain (λ _. memberRow m₃)) (λ _. tt) ∷ RefMutOf (3 ∷ []) tt (plain (λ _. memberRow m₄)) (λ _. tt) ∷ []; result = plain (λ _. O.row) }
+  callee = record { lifetimes = 4; outlives = []; params = plain (λ _. state_row S₀) ∷ RefMutOf (0 ∷ []) tt (plain (λ _. member_row m₁)) (λ _. tt) ∷ RefMutOf (1 ∷ []) tt (plain (λ _. member_row m₂)) (λ _. tt) ∷ RefMutOf (2 ∷ []) tt (plain (λ _. member_row m₃)) (λ _. tt) ∷ RefMutOf (3 ∷ []) tt (plain (λ _. member_row m₄)) (λ _. tt) ∷ []; result = plain (λ _. O.row) }
 
   abbrev pub signature : Signature
   signature = record { lifetimes = 1; outlives = []; params = RefMutOf (0 ∷ []) tt (plain (λ _. Row)) (λ _. tt) ∷ []; result = plain (λ _. row_of Ans) }
@@ -175,8 +175,8 @@ module _ (S₀ : State) (ν : Sym) (m₁ m₂ m₃ m₄ : Member) (D : Type 0) (
     abbrev to_callee : ℕ → GName → ℕ → GName → ℕ → GName → ℕ → GName → (Callee 𝓛).Ghost
     to_callee ν₁ δ₁ ν₂ δ₂ ν₃ δ₃ ν₄ δ₄ = (((ν₁ ∷ [], (ν₂ ∷ [], (ν₃ ∷ [], (ν₄ ∷ [], tt)))), (full_share, (full_share, (full_share, (full_share, tt)))), tt, ((hd h), (record { ref_ptr = (b, at₁); ghost_name = δ₁; now = (to h).1.0 }, (record { ref_ptr = (b, at₂); ghost_name = δ₂; now = (to h).1.1.0 }, (record { ref_ptr = (b, at₃); ghost_name = δ₃; now = (to h).1.1.1.0 }, (record { ref_ptr = (b, at₄); ghost_name = δ₄; now = (to h).1.1.1.1.0 }, tt))))), (mach (hd h) ∷ [], (vptr b at₁ ∷ [], (vptr b at₂ ∷ [], (vptr b at₃ ∷ [], (vptr b at₄ ∷ [], tt)))))), tt)
 
-    asked : Is (state_row S₀) (hd h) (mach (hd h) ∷ []) → pre (hd h) (to h).1.0 (to h).1.1.0 (to h).1.1.1.0 (to h).1.1.1.1.0 → (ν₁ : ℕ) (δ₁ : GName) (ν₂ : ℕ) (δ₂ : GName) (ν₃ : ℕ) (δ₃ : GName) (ν₄ : ℕ) (δ₄ : GName) → ent 𝓤 (⋆ 𝓛 (‵ (flft (ν₁ ∷ []) full_share) ∷ ‵ (flft (ν₂ ∷ []) full_share) ∷ ‵ (flft (ν₃ ∷ []) full_share) ∷ ‵ (flft (ν₄ ∷ []) full_share) ∷ ‵ ((MutRef (named 0) (ν₁ ∷ []) (memberRow m₁)).own_val (record { ref_ptr = (b, at₁); ghost_name = δ₁; now = (to h).1.0 }) (vptr b at₁ ∷ [])) ∷ ‵ ((MutRef (named 1) (ν₂ ∷ []) (memberRow m₂)).own_val (record { ref_ptr = (b, at₂); ghost_name = δ₂; now = (to h).1.1.0 }) (vptr b at₂ ∷ [])) ∷ ‵ ((MutRef (named 2) (ν₃ ∷ []) (memberRow m₃)).own_val (record { ref_ptr = (b, at₃); ghost_name = δ₃; now = (to h).1.1.1.0 }) (vptr b at₃ ∷ [])) ∷ ‵ ((MutRef (named 3) (ν₄ ∷ []) (memberRow m₄)).own_val (record { ref_ptr = (b, at₄); ghost_name = δ₄; now = (to h).1.1.1.1.0 }) (vptr b at₄ ∷ [])) ∷ [])) ((Callee 𝓛).pre (to_callee ν₁ δ₁ ν₂ δ₂ ν₃ δ₃ ν₄ δ₄))
-    asked was hold ν₁ δ₁ ν₂ δ₂ ν₃ δ₃ ν₄ δ₄ = qed 𝓛 (‵ (flft (ν₁ ∷ []) full_share) ∷ ‵ (flft (ν₂ ∷ []) full_share) ∷ ‵ (flft (ν₃ ∷ []) full_share) ∷ ‵ (flft (ν₄ ∷ []) full_share) ∷ ‵ ((MutRef (named 0) (ν₁ ∷ []) (memberRow m₁)).own_val (record { ref_ptr = (b, at₁); ghost_name = δ₁; now = (to h).1.0 }) (vptr b at₁ ∷ [])) ∷ ‵ ((MutRef (named 1) (ν₂ ∷ []) (memberRow m₂)).own_val (record { ref_ptr = (b, at₂); ghost_name = δ₂; now = (to h).1.1.0 }) (vptr b at₂ ∷ [])) ∷ ‵ ((MutRef (named 2) (ν₃ ∷ []) (memberRow m₃)).own_val (record { ref_ptr = (b, at₃); ghost_name = δ₃; now = (to h).1.1.1.0 }) (vptr b at₃ ∷ [])) ∷ ‵ ((MutRef (named 3) (ν₄ ∷ []) (memberRow m₄)).own_val (record { ref_ptr = (b, at₄); ghost_name = δ₄; now = (to h).1.1.1.1.0 }) (vptr b at₄ ∷ [])) ∷ []) ∵ says ! hold $ nothing ! $ move ! (8 ∷ 0 ∷ []) $ fjoin ! $ move ! (7 ∷ 0 ∷ []) $ fjoin ! $ move ! (6 ∷ 0 ∷ []) $ fjoin ! $ move ! (5 ∷ 0 ∷ []) $ fjoin ! $ owned ! (state_row S₀) (Is (state_row S₀)) (LL.makes S₀.T S₀.plain 𝓛) (hd h) _ was $ fjoin ! $ nothing ! $ move ! (5 ∷ 0 ∷ []) $ join ! $ move ! (4 ∷ 0 ∷ []) $ join ! $ move ! (3 ∷ 0 ∷ []) $ join ! $ move ! (2 ∷ 0 ∷ []) $ join ! $ done !
+    asked : Is (state_row S₀) (hd h) (mach (hd h) ∷ []) → pre (hd h) (to h).1.0 (to h).1.1.0 (to h).1.1.1.0 (to h).1.1.1.1.0 → (ν₁ : ℕ) (δ₁ : GName) (ν₂ : ℕ) (δ₂ : GName) (ν₃ : ℕ) (δ₃ : GName) (ν₄ : ℕ) (δ₄ : GName) → ent 𝓤 (⋆ 𝓛 (‵ (flft (ν₁ ∷ []) full_share) ∷ ‵ (flft (ν₂ ∷ []) full_share) ∷ ‵ (flft (ν₃ ∷ []) full_share) ∷ ‵ (flft (ν₄ ∷ []) full_share) ∷ ‵ ((MutRef (named 0) (ν₁ ∷ []) (member_row m₁)).own_val (record { ref_ptr = (b, at₁); ghost_name = δ₁; now = (to h).1.0 }) (vptr b at₁ ∷ [])) ∷ ‵ ((MutRef (named 1) (ν₂ ∷ []) (member_row m₂)).own_val (record { ref_ptr = (b, at₂); ghost_name = δ₂; now = (to h).1.1.0 }) (vptr b at₂ ∷ [])) ∷ ‵ ((MutRef (named 2) (ν₃ ∷ []) (member_row m₃)).own_val (record { ref_ptr = (b, at₃); ghost_name = δ₃; now = (to h).1.1.1.0 }) (vptr b at₃ ∷ [])) ∷ ‵ ((MutRef (named 3) (ν₄ ∷ []) (member_row m₄)).own_val (record { ref_ptr = (b, at₄); ghost_name = δ₄; now = (to h).1.1.1.1.0 }) (vptr b at₄ ∷ [])) ∷ [])) ((Callee 𝓛).pre (to_callee ν₁ δ₁ ν₂ δ₂ ν₃ δ₃ ν₄ δ₄))
+    asked was hold ν₁ δ₁ ν₂ δ₂ ν₃ δ₃ ν₄ δ₄ = qed 𝓛 (‵ (flft (ν₁ ∷ []) full_share) ∷ ‵ (flft (ν₂ ∷ []) full_share) ∷ ‵ (flft (ν₃ ∷ []) full_share) ∷ ‵ (flft (ν₄ ∷ []) full_share) ∷ ‵ ((MutRef (named 0) (ν₁ ∷ []) (member_row m₁)).own_val (record { ref_ptr = (b, at₁); ghost_name = δ₁; now = (to h).1.0 }) (vptr b at₁ ∷ [])) ∷ ‵ ((MutRef (named 1) (ν₂ ∷ []) (member_row m₂)).own_val (record { ref_ptr = (b, at₂); ghost_name = δ₂; now = (to h).1.1.0 }) (vptr b at₂ ∷ [])) ∷ ‵ ((MutRef (named 2) (ν₃ ∷ []) (member_row m₃)).own_val (record { ref_ptr = (b, at₃); ghost_name = δ₃; now = (to h).1.1.1.0 }) (vptr b at₃ ∷ [])) ∷ ‵ ((MutRef (named 3) (ν₄ ∷ []) (member_row m₄)).own_val (record { ref_ptr = (b, at₄); ghost_name = δ₄; now = (to h).1.1.1.1.0 }) (vptr b at₄ ∷ [])) ∷ []) ∵ says ! hold $ nothing ! $ move ! (8 ∷ 0 ∷ []) $ fjoin ! $ move ! (7 ∷ 0 ∷ []) $ fjoin ! $ move ! (6 ∷ 0 ∷ []) $ fjoin ! $ move ! (5 ∷ 0 ∷ []) $ fjoin ! $ owned ! (state_row S₀) (Is (state_row S₀)) (LL.makes S₀.T S₀.plain 𝓛) (hd h) _ was $ fjoin ! $ nothing ! $ move ! (5 ∷ 0 ∷ []) $ join ! $ move ! (4 ∷ 0 ∷ []) $ join ! $ move ! (3 ∷ 0 ∷ []) $ join ! $ move ! (2 ∷ 0 ∷ []) $ join ! $ done !
 
     ends : (r : O.row.Denot) → Is (row_of Ans) (O.ans r) (Ans.val (O.ans r) ∷ []) → O.ans r ≡ ans h → ent 𝓤 (⋆ 𝓛 (‵ (fobs γ (Row.coded.code (next h))) ∷ ‵ (fbor κ (Body (mem Row) b o γ)) ∷ ‵ (flft κ q) ∷ [])) (After (Ans.val (O.ans r)))
     ends r is e =
@@ -189,45 +189,45 @@ module _ (S₀ : State) (ν : Sym) (m₁ m₂ m₃ m₄ : Member) (D : Type 0) (
         (as_fields (Ans.ty ∷ τV ∷ []) (Ans.val (O.ans r) ∷ mach (O.st r) ∷ []) (Ans.typed (O.ans r) (O.ans_is r _ is), (((LL.lawful S₀.T S₀.L 𝓛).typed (O.st r) _ (O.st_is r _ is)).0, tt)))
 
     -- the head in memory is its cell with what it owns, and back
-    opened : ent 𝓤 (sem 𝓛 (part_at (memberRow (state_member S₀)) full_share (to h).0 b at₀)) (ex 𝓤 (λ (vs : List Val). sep 𝓤 (sem 𝓛 (cell_at full_share (state_row S₀).mir vs b at₀)) (sem 𝓛 ((state_row S₀).own (hd h) vs))))
+    opened : ent 𝓤 (sem 𝓛 (part_at (member_row (state_member S₀)) full_share (to h).0 b at₀)) (ex 𝓤 (λ (vs : List Val). sep 𝓤 (sem 𝓛 (cell_at full_share (state_row S₀).mir vs b at₀)) (sem 𝓛 ((state_row S₀).own (hd h) vs))))
     unfolding part_of
-    opened = subst (λ (u : (memberRow (state_member S₀)).Denot). ent 𝓤 (sem 𝓛 (part_at (memberRow (state_member S₀)) full_share u b at₀)) (ex 𝓤 (λ (vs : List Val). sep 𝓤 (sem 𝓛 (cell_at full_share (state_row S₀).mir vs b at₀)) (sem 𝓛 ((state_row S₀).own (hd h) vs))))) (sym (hd_is h)) (id⊢ 𝓤 _)
+    opened = subst (λ (u : (member_row (state_member S₀)).Denot). ent 𝓤 (sem 𝓛 (part_at (member_row (state_member S₀)) full_share u b at₀)) (ex 𝓤 (λ (vs : List Val). sep 𝓤 (sem 𝓛 (cell_at full_share (state_row S₀).mir vs b at₀)) (sem 𝓛 ((state_row S₀).own (hd h) vs))))) (sym (hd_is h)) (id⊢ 𝓤 _)
 
-    shut : (d : S₀.T.D) (vs : List Val) → ent 𝓤 (sep 𝓤 (sem 𝓛 (cell_at full_share (state_row S₀).mir vs b at₀)) (sem 𝓛 ((state_row S₀).own d vs))) (sem 𝓛 (part_at (memberRow (state_member S₀)) full_share (S₀.T.to d) b at₀))
+    shut : (d : S₀.T.D) (vs : List Val) → ent 𝓤 (sep 𝓤 (sem 𝓛 (cell_at full_share (state_row S₀).mir vs b at₀)) (sem 𝓛 ((state_row S₀).own d vs))) (sem 𝓛 (part_at (member_row (state_member S₀)) full_share (S₀.T.to d) b at₀))
     unfolding part_of
     shut d vs = ex_i 𝓤 (λ (us : List Val). sep 𝓤 (sem 𝓛 (cell_at full_share (state_row S₀).mir us b at₀)) (sem 𝓛 ((state_row S₀).own d us))) vs
 
-    opened₁ : ent 𝓤 (sem 𝓛 (part_at (memberRow m₁) full_share (to h).1.0 b at₁)) (ex 𝓤 (λ (vs : List Val). sep 𝓤 (sem 𝓛 (cell_at full_share (memberRow m₁).mir vs b at₁)) (sem 𝓛 ((memberRow m₁).own (to h).1.0 vs))))
+    opened₁ : ent 𝓤 (sem 𝓛 (part_at (member_row m₁) full_share (to h).1.0 b at₁)) (ex 𝓤 (λ (vs : List Val). sep 𝓤 (sem 𝓛 (cell_at full_share (member_row m₁).mir vs b at₁)) (sem 𝓛 ((member_row m₁).own (to h).1.0 vs))))
     unfolding part_of
     opened₁ = id⊢ 𝓤 _
 
-    shut₁ : (vs : List Val) → ent 𝓤 (sep 𝓤 (sem 𝓛 (cell_at full_share (memberRow m₁).mir vs b at₁)) (sem 𝓛 ((memberRow m₁).own (to h).1.0 vs))) (sem 𝓛 (part_at (memberRow m₁) full_share (to h).1.0 b at₁))
+    shut₁ : (vs : List Val) → ent 𝓤 (sep 𝓤 (sem 𝓛 (cell_at full_share (member_row m₁).mir vs b at₁)) (sem 𝓛 ((member_row m₁).own (to h).1.0 vs))) (sem 𝓛 (part_at (member_row m₁) full_share (to h).1.0 b at₁))
     unfolding part_of
-    shut₁ vs = ex_i 𝓤 (λ (us : List Val). sep 𝓤 (sem 𝓛 (cell_at full_share (memberRow m₁).mir us b at₁)) (sem 𝓛 ((memberRow m₁).own (to h).1.0 us))) vs
+    shut₁ vs = ex_i 𝓤 (λ (us : List Val). sep 𝓤 (sem 𝓛 (cell_at full_share (member_row m₁).mir us b at₁)) (sem 𝓛 ((member_row m₁).own (to h).1.0 us))) vs
 
-    opened₂ : ent 𝓤 (sem 𝓛 (part_at (memberRow m₂) full_share (to h).1.1.0 b at₂)) (ex 𝓤 (λ (vs : List Val). sep 𝓤 (sem 𝓛 (cell_at full_share (memberRow m₂).mir vs b at₂)) (sem 𝓛 ((memberRow m₂).own (to h).1.1.0 vs))))
+    opened₂ : ent 𝓤 (sem 𝓛 (part_at (member_row m₂) full_share (to h).1.1.0 b at₂)) (ex 𝓤 (λ (vs : List Val). sep 𝓤 (sem 𝓛 (cell_at full_share (member_row m₂).mir vs b at₂)) (sem 𝓛 ((member_row m₂).own (to h).1.1.0 vs))))
     unfolding part_of
     opened₂ = id⊢ 𝓤 _
 
-    shut₂ : (vs : List Val) → ent 𝓤 (sep 𝓤 (sem 𝓛 (cell_at full_share (memberRow m₂).mir vs b at₂)) (sem 𝓛 ((memberRow m₂).own (to h).1.1.0 vs))) (sem 𝓛 (part_at (memberRow m₂) full_share (to h).1.1.0 b at₂))
+    shut₂ : (vs : List Val) → ent 𝓤 (sep 𝓤 (sem 𝓛 (cell_at full_share (member_row m₂).mir vs b at₂)) (sem 𝓛 ((member_row m₂).own (to h).1.1.0 vs))) (sem 𝓛 (part_at (member_row m₂) full_share (to h).1.1.0 b at₂))
     unfolding part_of
-    shut₂ vs = ex_i 𝓤 (λ (us : List Val). sep 𝓤 (sem 𝓛 (cell_at full_share (memberRow m₂).mir us b at₂)) (sem 𝓛 ((memberRow m₂).own (to h).1.1.0 us))) vs
+    shut₂ vs = ex_i 𝓤 (λ (us : List Val). sep 𝓤 (sem 𝓛 (cell_at full_share (member_row m₂).mir us b at₂)) (sem 𝓛 ((member_row m₂).own (to h).1.1.0 us))) vs
 
-    opened₃ : ent 𝓤 (sem 𝓛 (part_at (memberRow m₃) full_share (to h).1.1.1.0 b at₃)) (ex 𝓤 (λ (vs : List Val). sep 𝓤 (sem 𝓛 (cell_at full_share (memberRow m₃).mir vs b at₃)) (sem 𝓛 ((memberRow m₃).own (to h).1.1.1.0 vs))))
+    opened₃ : ent 𝓤 (sem 𝓛 (part_at (member_row m₃) full_share (to h).1.1.1.0 b at₃)) (ex 𝓤 (λ (vs : List Val). sep 𝓤 (sem 𝓛 (cell_at full_share (member_row m₃).mir vs b at₃)) (sem 𝓛 ((member_row m₃).own (to h).1.1.1.0 vs))))
     unfolding part_of
     opened₃ = id⊢ 𝓤 _
 
-    shut₃ : (vs : List Val) → ent 𝓤 (sep 𝓤 (sem 𝓛 (cell_at full_share (memberRow m₃).mir vs b at₃)) (sem 𝓛 ((memberRow m₃).own (to h).1.1.1.0 vs))) (sem 𝓛 (part_at (memberRow m₃) full_share (to h).1.1.1.0 b at₃))
+    shut₃ : (vs : List Val) → ent 𝓤 (sep 𝓤 (sem 𝓛 (cell_at full_share (member_row m₃).mir vs b at₃)) (sem 𝓛 ((member_row m₃).own (to h).1.1.1.0 vs))) (sem 𝓛 (part_at (member_row m₃) full_share (to h).1.1.1.0 b at₃))
     unfolding part_of
-    shut₃ vs = ex_i 𝓤 (λ (us : List Val). sep 𝓤 (sem 𝓛 (cell_at full_share (memberRow m₃).mir us b at₃)) (sem 𝓛 ((memberRow m₃).own (to h).1.1.1.0 us))) vs
+    shut₃ vs = ex_i 𝓤 (λ (us : List Val). sep 𝓤 (sem 𝓛 (cell_at full_share (member_row m₃).mir us b at₃)) (sem 𝓛 ((member_row m₃).own (to h).1.1.1.0 us))) vs
 
-    opened₄ : ent 𝓤 (sem 𝓛 (part_at (memberRow m₄) full_share (to h).1.1.1.1.0 b at₄)) (ex 𝓤 (λ (vs : List Val). sep 𝓤 (sem 𝓛 (cell_at full_share (memberRow m₄).mir vs b at₄)) (sem 𝓛 ((memberRow m₄).own (to h).1.1.1.1.0 vs))))
+    opened₄ : ent 𝓤 (sem 𝓛 (part_at (member_row m₄) full_share (to h).1.1.1.1.0 b at₄)) (ex 𝓤 (λ (vs : List Val). sep 𝓤 (sem 𝓛 (cell_at full_share (member_row m₄).mir vs b at₄)) (sem 𝓛 ((member_row m₄).own (to h).1.1.1.1.0 vs))))
     unfolding part_of
     opened₄ = id⊢ 𝓤 _
 
-    shut₄ : (vs : List Val) → ent 𝓤 (sep 𝓤 (sem 𝓛 (cell_at full_share (memberRow m₄).mir vs b at₄)) (sem 𝓛 ((memberRow m₄).own (to h).1.1.1.1.0 vs))) (sem 𝓛 (part_at (memberRow m₄) full_share (to h).1.1.1.1.0 b at₄))
+    shut₄ : (vs : List Val) → ent 𝓤 (sep 𝓤 (sem 𝓛 (cell_at full_share (member_row m₄).mir vs b at₄)) (sem 𝓛 ((member_row m₄).own (to h).1.1.1.1.0 vs))) (sem 𝓛 (part_at (member_row m₄) full_share (to h).1.1.1.1.0 b at₄))
     unfolding part_of
-    shut₄ vs = ex_i 𝓤 (λ (us : List Val). sep 𝓤 (sem 𝓛 (cell_at full_share (memberRow m₄).mir us b at₄)) (sem 𝓛 ((memberRow m₄).own (to h).1.1.1.1.0 us))) vs
+    shut₄ vs = ex_i 𝓤 (λ (us : List Val). sep 𝓤 (sem 𝓛 (cell_at full_share (member_row m₄).mir us b at₄)) (sem 𝓛 ((member_row m₄).own (to h).1.1.1.1.0 us))) vs
 
     -- the struct in memory is its fields in memory, and back
     apart : ent 𝓤 (sem 𝓛 (part_at Row full_share h b o)) (sep 𝓤 (sem 𝓛 (parts_at full_share ((state_member S₀) ∷ m₁ ∷ m₂ ∷ m₃ ∷ m₄ ∷ []) zero (to h) b o)) (PartsBack 𝓛 full_share ν ((state_member S₀) ∷ m₁ ∷ m₂ ∷ m₃ ∷ m₄ ∷ []) b o))
@@ -256,24 +256,24 @@ module _ (S₀ : State) (ν : Sym) (m₁ m₂ m₃ m₄ : Member) (D : Type 0) (
           assigns ! (addr ! (from ! (hop ! (look ! 22 refl) (fld ! refl (stop !))))) (from ! (stop !)) (init ! 14 refl (tt, tt)) $
           assigns ! (addr ! (from ! (hop ! (look ! 22 refl) (fld ! refl (stop !))))) (from ! (stop !)) (init ! 12 refl (tt, tt)) $
           assigns ! (addr ! (from ! (hop ! (look ! 22 refl) (fld ! refl (stop !))))) (from ! (stop !)) (init ! 10 refl (tt, tt)) $
-          move ! (5 ∷ []) $ use1 𝓛 (some (λ (vs₁ : List Val). ‵ (cell_at full_share (memberRow m₁).mir vs₁ b at₁) ⊛ ‵ ((memberRow m₁).own (to h).1.0 vs₁))) opened₁ $ pick ! (λ vs₁. split ! $ move ! (1 ∷ []) $ peeks ! (memberRow m₁) (Is (memberRow m₁)) (shows 𝓛 (memberRow m₁)) (to h).1.0 vs₁ (λ is₁. move ! (1 ∷ 0 ∷ []) $ use2 𝓛 (‵ (part_at (memberRow m₁) full_share (to h).1.0 b at₁)) (shut₁ vs₁) $
-          move ! (5 ∷ []) $ use1 𝓛 (some (λ (vs₂ : List Val). ‵ (cell_at full_share (memberRow m₂).mir vs₂ b at₂) ⊛ ‵ ((memberRow m₂).own (to h).1.1.0 vs₂))) opened₂ $ pick ! (λ vs₂. split ! $ move ! (1 ∷ []) $ peeks ! (memberRow m₂) (Is (memberRow m₂)) (shows 𝓛 (memberRow m₂)) (to h).1.1.0 vs₂ (λ is₂. move ! (1 ∷ 0 ∷ []) $ use2 𝓛 (‵ (part_at (memberRow m₂) full_share (to h).1.1.0 b at₂)) (shut₂ vs₂) $
-          move ! (5 ∷ []) $ use1 𝓛 (some (λ (vs₃ : List Val). ‵ (cell_at full_share (memberRow m₃).mir vs₃ b at₃) ⊛ ‵ ((memberRow m₃).own (to h).1.1.1.0 vs₃))) opened₃ $ pick ! (λ vs₃. split ! $ move ! (1 ∷ []) $ peeks ! (memberRow m₃) (Is (memberRow m₃)) (shows 𝓛 (memberRow m₃)) (to h).1.1.1.0 vs₃ (λ is₃. move ! (1 ∷ 0 ∷ []) $ use2 𝓛 (‵ (part_at (memberRow m₃) full_share (to h).1.1.1.0 b at₃)) (shut₃ vs₃) $
-          move ! (5 ∷ []) $ use1 𝓛 (some (λ (vs₄ : List Val). ‵ (cell_at full_share (memberRow m₄).mir vs₄ b at₄) ⊛ ‵ ((memberRow m₄).own (to h).1.1.1.1.0 vs₄))) opened₄ $ pick ! (λ vs₄. split ! $ move ! (1 ∷ []) $ peeks ! (memberRow m₄) (Is (memberRow m₄)) (shows 𝓛 (memberRow m₄)) (to h).1.1.1.1.0 vs₄ (λ is₄. move ! (1 ∷ 0 ∷ []) $ use2 𝓛 (‵ (part_at (memberRow m₄) full_share (to h).1.1.1.1.0 b at₄)) (shut₄ vs₄) $
-          lft_new ! tt (λ ν₁. move ! (4 ∷ []) $ use1 𝓛 (later (some (λ (δ : GName). ‵ ((MutRef (named 0) (ν₁ ∷ []) (memberRow m₁)).own_val (record { ref_ptr = (b, at₁); ghost_name = δ; now = (to h).1.0 }) (vptr b at₁ ∷ [])) ⊛ ‵ (flent (ν₁ ∷ []) (Body (mem (memberRow m₁)) b at₁ δ))))) (lends_ref 𝓛 (memberRow m₁) (named 0) (ν₁ ∷ []) (to h).1.0 b at₁) $ await ! tt $ pick ! (λ δ₁. split ! $
-          lft_new ! tt (λ ν₂. move ! (6 ∷ []) $ use1 𝓛 (later (some (λ (δ : GName). ‵ ((MutRef (named 1) (ν₂ ∷ []) (memberRow m₂)).own_val (record { ref_ptr = (b, at₂); ghost_name = δ; now = (to h).1.1.0 }) (vptr b at₂ ∷ [])) ⊛ ‵ (flent (ν₂ ∷ []) (Body (mem (memberRow m₂)) b at₂ δ))))) (lends_ref 𝓛 (memberRow m₂) (named 1) (ν₂ ∷ []) (to h).1.1.0 b at₂) $ await ! tt $ pick ! (λ δ₂. split ! $
-          lft_new ! tt (λ ν₃. move ! (8 ∷ []) $ use1 𝓛 (later (some (λ (δ : GName). ‵ ((MutRef (named 2) (ν₃ ∷ []) (memberRow m₃)).own_val (record { ref_ptr = (b, at₃); ghost_name = δ; now = (to h).1.1.1.0 }) (vptr b at₃ ∷ [])) ⊛ ‵ (flent (ν₃ ∷ []) (Body (mem (memberRow m₃)) b at₃ δ))))) (lends_ref 𝓛 (memberRow m₃) (named 2) (ν₃ ∷ []) (to h).1.1.1.0 b at₃) $ await ! tt $ pick ! (λ δ₃. split ! $
-          lft_new ! tt (λ ν₄. move ! (10 ∷ []) $ use1 𝓛 (later (some (λ (δ : GName). ‵ ((MutRef (named 3) (ν₄ ∷ []) (memberRow m₄)).own_val (record { ref_ptr = (b, at₄); ghost_name = δ; now = (to h).1.1.1.1.0 }) (vptr b at₄ ∷ [])) ⊛ ‵ (flent (ν₄ ∷ []) (Body (mem (memberRow m₄)) b at₄ δ))))) (lends_ref 𝓛 (memberRow m₄) (named 3) (ν₄ ∷ []) (to h).1.1.1.1.0 b at₄) $ await ! tt $ pick ! (λ δ₄. split ! $
+          move ! (5 ∷ []) $ use1 𝓛 (some (λ (vs₁ : List Val). ‵ (cell_at full_share (member_row m₁).mir vs₁ b at₁) ⊛ ‵ ((member_row m₁).own (to h).1.0 vs₁))) opened₁ $ pick ! (λ vs₁. split ! $ move ! (1 ∷ []) $ peeks ! (member_row m₁) (Is (member_row m₁)) (shows 𝓛 (member_row m₁)) (to h).1.0 vs₁ (λ is₁. move ! (1 ∷ 0 ∷ []) $ use2 𝓛 (‵ (part_at (member_row m₁) full_share (to h).1.0 b at₁)) (shut₁ vs₁) $
+          move ! (5 ∷ []) $ use1 𝓛 (some (λ (vs₂ : List Val). ‵ (cell_at full_share (member_row m₂).mir vs₂ b at₂) ⊛ ‵ ((member_row m₂).own (to h).1.1.0 vs₂))) opened₂ $ pick ! (λ vs₂. split ! $ move ! (1 ∷ []) $ peeks ! (member_row m₂) (Is (member_row m₂)) (shows 𝓛 (member_row m₂)) (to h).1.1.0 vs₂ (λ is₂. move ! (1 ∷ 0 ∷ []) $ use2 𝓛 (‵ (part_at (member_row m₂) full_share (to h).1.1.0 b at₂)) (shut₂ vs₂) $
+          move ! (5 ∷ []) $ use1 𝓛 (some (λ (vs₃ : List Val). ‵ (cell_at full_share (member_row m₃).mir vs₃ b at₃) ⊛ ‵ ((member_row m₃).own (to h).1.1.1.0 vs₃))) opened₃ $ pick ! (λ vs₃. split ! $ move ! (1 ∷ []) $ peeks ! (member_row m₃) (Is (member_row m₃)) (shows 𝓛 (member_row m₃)) (to h).1.1.1.0 vs₃ (λ is₃. move ! (1 ∷ 0 ∷ []) $ use2 𝓛 (‵ (part_at (member_row m₃) full_share (to h).1.1.1.0 b at₃)) (shut₃ vs₃) $
+          move ! (5 ∷ []) $ use1 𝓛 (some (λ (vs₄ : List Val). ‵ (cell_at full_share (member_row m₄).mir vs₄ b at₄) ⊛ ‵ ((member_row m₄).own (to h).1.1.1.1.0 vs₄))) opened₄ $ pick ! (λ vs₄. split ! $ move ! (1 ∷ []) $ peeks ! (member_row m₄) (Is (member_row m₄)) (shows 𝓛 (member_row m₄)) (to h).1.1.1.1.0 vs₄ (λ is₄. move ! (1 ∷ 0 ∷ []) $ use2 𝓛 (‵ (part_at (member_row m₄) full_share (to h).1.1.1.1.0 b at₄)) (shut₄ vs₄) $
+          lft_new ! tt (λ ν₁. move ! (4 ∷ []) $ use1 𝓛 (later (some (λ (δ : GName). ‵ ((MutRef (named 0) (ν₁ ∷ []) (member_row m₁)).own_val (record { ref_ptr = (b, at₁); ghost_name = δ; now = (to h).1.0 }) (vptr b at₁ ∷ [])) ⊛ ‵ (flent (ν₁ ∷ []) (Body (mem (member_row m₁)) b at₁ δ))))) (lends_ref 𝓛 (member_row m₁) (named 0) (ν₁ ∷ []) (to h).1.0 b at₁) $ await ! tt $ pick ! (λ δ₁. split ! $
+          lft_new ! tt (λ ν₂. move ! (6 ∷ []) $ use1 𝓛 (later (some (λ (δ : GName). ‵ ((MutRef (named 1) (ν₂ ∷ []) (member_row m₂)).own_val (record { ref_ptr = (b, at₂); ghost_name = δ; now = (to h).1.1.0 }) (vptr b at₂ ∷ [])) ⊛ ‵ (flent (ν₂ ∷ []) (Body (mem (member_row m₂)) b at₂ δ))))) (lends_ref 𝓛 (member_row m₂) (named 1) (ν₂ ∷ []) (to h).1.1.0 b at₂) $ await ! tt $ pick ! (λ δ₂. split ! $
+          lft_new ! tt (λ ν₃. move ! (8 ∷ []) $ use1 𝓛 (later (some (λ (δ : GName). ‵ ((MutRef (named 2) (ν₃ ∷ []) (member_row m₃)).own_val (record { ref_ptr = (b, at₃); ghost_name = δ; now = (to h).1.1.1.0 }) (vptr b at₃ ∷ [])) ⊛ ‵ (flent (ν₃ ∷ []) (Body (mem (member_row m₃)) b at₃ δ))))) (lends_ref 𝓛 (member_row m₃) (named 2) (ν₃ ∷ []) (to h).1.1.1.0 b at₃) $ await ! tt $ pick ! (λ δ₃. split ! $
+          lft_new ! tt (λ ν₄. move ! (10 ∷ []) $ use1 𝓛 (later (some (λ (δ : GName). ‵ ((MutRef (named 3) (ν₄ ∷ []) (member_row m₄)).own_val (record { ref_ptr = (b, at₄); ghost_name = δ; now = (to h).1.1.1.1.0 }) (vptr b at₄ ∷ [])) ⊛ ‵ (flent (ν₄ ∷ []) (Body (mem (member_row m₄)) b at₄ δ))))) (lends_ref 𝓛 (member_row m₄) (named 3) (ν₄ ∷ []) (to h).1.1.1.1.0 b at₄) $ await ! tt $ pick ! (λ δ₄. split ! $
           move ! (3 ∷ 0 ∷ []) $ join ! $ move ! (5 ∷ 0 ∷ []) $ join ! $ move ! (7 ∷ 0 ∷ []) $ join ! $ move ! (2 ∷ 0 ∷ []) $ join ! $ move ! (3 ∷ 0 ∷ []) $ join ! $ move ! (4 ∷ 0 ∷ []) $ join ! $ move ! (5 ∷ 0 ∷ []) $ join ! $ use1 𝓛 (raw ((Callee 𝓛).pre (to_callee ν₁ δ₁ ν₂ δ₂ ν₃ δ₃ ν₄ δ₄))) (asked was (pre_holds h vs₁ vs₂ vs₃ vs₄ is₁ is₂ is₃ is₄) ν₁ δ₁ ν₂ δ₂ ν₃ δ₃ ν₄ δ₄) $ calls_at ! fm (Callee 𝓛) known (to_callee ν₁ δ₁ ν₂ δ₂ ν₃ δ₃ ν₄ δ₄) (and_then ! (load ! (from ! (stop !)) (look ! 21 refl)) (and_then ! (load ! (from ! (stop !)) (look ! 17 refl)) (and_then ! (load ! (from ! (stop !)) (look ! 15 refl)) (and_then ! (load ! (from ! (stop !)) (look ! 13 refl)) (and_then ! (load ! (from ! (stop !)) (look ! 11 refl)) (no_more !)))))) (λ u.
           use1 𝓛 (later (some (λ (r : O.row.Denot). ((‵ (flft (ν₁ ∷ []) full_share) ⊛ ‵ (flft (ν₂ ∷ []) full_share) ⊛ ‵ (flft (ν₃ ∷ []) full_share) ⊛ ‵ (flft (ν₄ ∷ []) full_share) ⊛ ‵ ftrue) ⊛ ‵ (O.row.own_val r (u ∷ []))) ⊛ raw ((callee_spec 𝓛 (ν₁ ∷ [], (ν₂ ∷ [], (ν₃ ∷ [], (ν₄ ∷ [], tt)))) ((hd h), (record { ref_ptr = (b, at₁); ghost_name = δ₁; now = (to h).1.0 }, (record { ref_ptr = (b, at₂); ghost_name = δ₂; now = (to h).1.1.0 }, (record { ref_ptr = (b, at₃); ghost_name = δ₃; now = (to h).1.1.1.0 }, (record { ref_ptr = (b, at₄); ghost_name = δ₄; now = (to h).1.1.1.1.0 }, tt)))))).ensures tt r)))) (id⊢ 𝓤 _) $ await ! tt $ pick ! (λ r. split ! $ move ! (1 ∷ []) $ use1 𝓛 (some (λ (ws : Fins (ν₁ ∷ [], (ν₂ ∷ [], (ν₃ ∷ [], (ν₄ ∷ [], tt)))) callee.params (yes, (yes, (yes, (yes, (yes, tt))))) ((hd h), (record { ref_ptr = (b, at₁); ghost_name = δ₁; now = (to h).1.0 }, (record { ref_ptr = (b, at₂); ghost_name = δ₂; now = (to h).1.1.0 }, (record { ref_ptr = (b, at₃); ghost_name = δ₃; now = (to h).1.1.1.0 }, (record { ref_ptr = (b, at₄); ghost_name = δ₄; now = (to h).1.1.1.1.0 }, tt)))))). ‵ (lasts_of (ν₁ ∷ [], (ν₂ ∷ [], (ν₃ ∷ [], (ν₄ ∷ [], tt)))) callee.params (yes, (yes, (yes, (yes, (yes, tt))))) ((hd h), (record { ref_ptr = (b, at₁); ghost_name = δ₁; now = (to h).1.0 }, (record { ref_ptr = (b, at₂); ghost_name = δ₂; now = (to h).1.1.0 }, (record { ref_ptr = (b, at₃); ghost_name = δ₃; now = (to h).1.1.1.0 }, (record { ref_ptr = (b, at₄); ghost_name = δ₄; now = (to h).1.1.1.1.0 }, tt))))) ws) ⊛ raw (fact 𝓤 ((r ≡ spec (hd h) (to h).1.0 (to h).1.1.0 (to h).1.1.1.0 (to h).1.1.1.1.0) × (ws.1.0 ≡ set₁ (hd h) (to h).1.0 (to h).1.1.0 (to h).1.1.1.0 (to h).1.1.1.1.0) × (ws.1.1.0 ≡ set₂ (hd h) (to h).1.0 (to h).1.1.0 (to h).1.1.1.0 (to h).1.1.1.1.0) × (ws.1.1.1.0 ≡ set₃ (hd h) (to h).1.0 (to h).1.1.0 (to h).1.1.1.0 (to h).1.1.1.1.0) × (ws.1.1.1.1.0 ≡ set₄ (hd h) (to h).1.0 (to h).1.1.0 (to h).1.1.1.0 (to h).1.1.1.1.0))))) (id⊢ 𝓤 _) $ pick ! (λ ws. split ! $ move ! (1 ∷ []) $ heard ! ((r ≡ spec (hd h) (to h).1.0 (to h).1.1.0 (to h).1.1.1.0 (to h).1.1.1.1.0) × (ws.1.0 ≡ set₁ (hd h) (to h).1.0 (to h).1.1.0 (to h).1.1.1.0 (to h).1.1.1.1.0) × (ws.1.1.0 ≡ set₂ (hd h) (to h).1.0 (to h).1.1.0 (to h).1.1.1.0 (to h).1.1.1.1.0) × (ws.1.1.1.0 ≡ set₃ (hd h) (to h).1.0 (to h).1.1.0 (to h).1.1.1.0 (to h).1.1.1.1.0) × (ws.1.1.1.1.0 ≡ set₄ (hd h) (to h).1.0 (to h).1.1.0 (to h).1.1.1.0 (to h).1.1.1.1.0)) (λ e. fsplit ! $ drop ! $ fsplit ! $ move ! (1 ∷ []) $ fsplit ! $ move ! (1 ∷ []) $ fsplit ! $ move ! (1 ∷ []) $ fsplit ! $ move ! (1 ∷ []) $ drop ! $ move ! (4 ∷ []) $ split ! $ split ! $ move ! (1 ∷ []) $ split ! $ move ! (1 ∷ []) $ split ! $ move ! (1 ∷ []) $ split ! $ move ! (1 ∷ []) $ drop ! $ move ! (4 ∷ []) $ peeks ! O.row (Is O.row) (shows 𝓛 O.row) r (u ∷ []) (λ is.
           land ! (from ! (stop !)) (init ! 27 refl (typed_out r u is)) $ rewrite ! 27 (λ (u' : Val). ‵ (fat full_share τO b₃ 0 u')) (ap only (O.tells r _ is)) refl $
           assigns ! (of_opd ! (load ! (from ! (fld ! refl (stop !))) (look_in ! 27 (sub ! 1 refl (whole !))))) (from ! (hop ! (look ! 31 refl) (fld ! refl (stop !)))) (store_raw ! 14 refl ((LL.lawful S₀.T S₀.L 𝓛).typed (O.st r) _ (O.st_is r _ is)).0) $
           assigns ! (of_opd ! (load ! (from ! (fld ! refl (stop !))) (look_in ! 27 (sub ! 0 refl (whole !))))) (from ! (stop !)) (init ! 33 refl (Ans.typed (O.ans r) (O.ans_is r _ is))) $
-          drop ! $ move ! (12 ∷ []) $ drop ! $ owned ! (state_row S₀) (Is (state_row S₀)) (LL.makes S₀.T S₀.plain 𝓛) (O.st r) _ (O.st_is r _ is) $ move ! (13 ∷ 0 ∷ []) $ use2 𝓛 (‵ (part_at (memberRow (state_member S₀)) full_share (S₀.T.to (O.st r)) b at₀)) (shut (O.st r) (mach (O.st r) ∷ [])) $
-          move ! (4 ∷ []) $ lft_end ! tt $ move ! (0 ∷ 12 ∷ 8 ∷ []) $ use3 𝓛 (later (‵ (part_at (memberRow m₁) full_share ws.1.0 b at₁))) (ref_back 𝓛 (memberRow m₁) (ν₁ ∷ []) δ₁ ws.1.0 b at₁) $ await ! tt $
-          move ! (4 ∷ []) $ lft_end ! tt $ move ! (0 ∷ 10 ∷ 7 ∷ []) $ use3 𝓛 (later (‵ (part_at (memberRow m₂) full_share ws.1.1.0 b at₂))) (ref_back 𝓛 (memberRow m₂) (ν₂ ∷ []) δ₂ ws.1.1.0 b at₂) $ await ! tt $
-          move ! (4 ∷ []) $ lft_end ! tt $ move ! (0 ∷ 8 ∷ 6 ∷ []) $ use3 𝓛 (later (‵ (part_at (memberRow m₃) full_share ws.1.1.1.0 b at₃))) (ref_back 𝓛 (memberRow m₃) (ν₃ ∷ []) δ₃ ws.1.1.1.0 b at₃) $ await ! tt $
-          move ! (4 ∷ []) $ lft_end ! tt $ move ! (0 ∷ 6 ∷ 5 ∷ []) $ use3 𝓛 (later (‵ (part_at (memberRow m₄) full_share ws.1.1.1.1.0 b at₄))) (ref_back 𝓛 (memberRow m₄) (ν₄ ∷ []) δ₄ ws.1.1.1.1.0 b at₄) $ await ! tt $
+          drop ! $ move ! (12 ∷ []) $ drop ! $ owned ! (state_row S₀) (Is (state_row S₀)) (LL.makes S₀.T S₀.plain 𝓛) (O.st r) _ (O.st_is r _ is) $ move ! (13 ∷ 0 ∷ []) $ use2 𝓛 (‵ (part_at (member_row (state_member S₀)) full_share (S₀.T.to (O.st r)) b at₀)) (shut (O.st r) (mach (O.st r) ∷ [])) $
+          move ! (4 ∷ []) $ lft_end ! tt $ move ! (0 ∷ 12 ∷ 8 ∷ []) $ use3 𝓛 (later (‵ (part_at (member_row m₁) full_share ws.1.0 b at₁))) (ref_back 𝓛 (member_row m₁) (ν₁ ∷ []) δ₁ ws.1.0 b at₁) $ await ! tt $
+          move ! (4 ∷ []) $ lft_end ! tt $ move ! (0 ∷ 10 ∷ 7 ∷ []) $ use3 𝓛 (later (‵ (part_at (member_row m₂) full_share ws.1.1.0 b at₂))) (ref_back 𝓛 (member_row m₂) (ν₂ ∷ []) δ₂ ws.1.1.0 b at₂) $ await ! tt $
+          move ! (4 ∷ []) $ lft_end ! tt $ move ! (0 ∷ 8 ∷ 6 ∷ []) $ use3 𝓛 (later (‵ (part_at (member_row m₃) full_share ws.1.1.1.0 b at₃))) (ref_back 𝓛 (member_row m₃) (ν₃ ∷ []) δ₃ ws.1.1.1.0 b at₃) $ await ! tt $
+          move ! (4 ∷ []) $ lft_end ! tt $ move ! (0 ∷ 6 ∷ 5 ∷ []) $ use3 𝓛 (later (‵ (part_at (member_row m₄) full_share ws.1.1.1.1.0 b at₄))) (ref_back 𝓛 (member_row m₄) (ν₄ ∷ []) δ₄ ws.1.1.1.1.0 b at₄) $ await ! tt $
           nothing ! $ move ! (1 ∷ 0 ∷ []) $ fjoin ! $ move ! (1 ∷ 0 ∷ []) $ fjoin ! $ move ! (1 ∷ 0 ∷ []) $ fjoin ! $ move ! (1 ∷ 0 ∷ []) $ fjoin ! $ move ! (1 ∷ 0 ∷ []) $ fjoin ! $ use2 𝓛 (‵ (part_at Row full_share (next h) b o)) (together (S₀.T.to (O.st r), (ws.1.0, (ws.1.1.0, (ws.1.1.1.0, (ws.1.1.1.1.0, tt))))) ((λ i. (S₀.T.to (O.st (e.0 i)), (e.1 i, (e.2 i, (e.3 i, (e.4 i, tt)))))) ∙ next_is h)) $
           close_ref ! tt (mem Row) (next h) {b = b} {o = o} $ returns ! (look ! 17 refl) $ forget ! 17 refl $ forget ! 15 refl $ forget ! 13 refl $ forget ! 11 refl $ forget ! 9 refl $ forget ! 7 refl $ forget ! 5 refl $ forget ! 3 refl $
           move ! (17 ∷ 18 ∷ []) $ free1 ! $ move ! (15 ∷ 16 ∷ []) $ free1 ! $ move ! (13 ∷ 14 ∷ []) $ free1 ! $ move ! (11 ∷ 12 ∷ []) $ free1 ! $ move ! (9 ∷ 10 ∷ []) $ free1 ! $ move ! (7 ∷ 8 ∷ []) $ free1 ! $ move ! (5 ∷ 6 ∷ []) $ free1 ! $ move ! (3 ∷ 4 ∷ []) $ free1 ! $ free0 ! $ keep ! (0 ∷ 1 ∷ 2 ∷ []) $ by ! (ends r (O.ans_is r _ is) (ap O.ans e.0 ∙ ans_is h)))))))))))))))))))))))))))))))))

@@ -40,7 +40,7 @@ use denote.Struct.Steps.{spelt}
 use denote.Struct.Struct.{Struct, layout, as_fields}
 use denote.Struct.Declared.{shape}
 use denote.Struct.Recorded.{Recorded, Recorded-part}
-use denote.Struct.Members.{Member, row_of as memberRow, rows_of, parts_at}
+use denote.Struct.Members.{Member, row_of as member_row, rows_of, parts_at}
 use denote.Struct.Parts.{shape_of, PartsBack, Struct-parts}
 use denote.Triple.Statement.{Contract, Triple}
 use denote.Triple.Call.{calls_at}
@@ -85,7 +85,7 @@ module _ (S₀ : State) (ν : Sym) (m₁ : Member) (D : Type 0) (to : D → Deno
   }
 
   abbrev pub callee : Signature
-  callee = record { lifetimes = 3; outlives = []; params = plain (λ _. state_row S₀) ∷ RefMutOf (0 ∷ []) tt (plain (λ _. memberRow m₁)) (λ _. tt) ∷ SliceRefMutOf (1 ∷ []) tt (plain (λ _. row_of A₁)) (λ _. tt) ∷ plain (λ _. row_of A₂) ∷ SliceRefOf (2 ∷ []) tt (plain (λ _. row_of A₃)) (λ _. tt) ∷ []; result = plain (λ _. O.row) }
+  callee = record { lifetimes = 3; outlives = []; params = plain (λ _. state_row S₀) ∷ RefMutOf (0 ∷ []) tt (plain (λ _. member_row m₁)) (λ _. tt) ∷ SliceRefMutOf (1 ∷ []) tt (plain (λ _. row_of A₁)) (λ _. tt) ∷ plain (λ _. row_of A₂) ∷ SliceRefOf (2 ∷ []) tt (plain (λ _. row_of A₃)) (λ _. tt) ∷ []; result = plain (λ _. O.row) }
 
   abbrev pub signature : Signature
   signature = record { lifetimes = 3; outlives = []; params = RefMutOf (0 ∷ []) tt (plain (λ _. Row)) (λ _. tt) ∷ SliceRefMutOf (1 ∷ []) tt (plain (λ _. row_of A₁)) (λ _. tt) ∷ plain (λ _. row_of A₂) ∷ SliceRefOf (2 ∷ []) tt (plain (λ _. row_of A₃)) (λ _. tt) ∷ []; result = plain (λ _. row_of Ans) }
@@ -156,8 +156,8 @@ module _ (S₀ : State) (ν : Sym) (m₁ : Member) (D : Type 0) (to : D → Deno
     abbrev to_callee : ℕ → GName → (Callee 𝓛).Ghost
     to_callee ν₁ δ₁ = (((ν₁ ∷ [], (κ₁, (κ₃, tt))), (full_share, (q₁, (q₃, tt))), tt, ((hd h), (record { ref_ptr = (b, at₁); ghost_name = δ₁; now = (to h).1.0 }, (a₁, (a₂, (a₃, tt))))), (mach (hd h) ∷ [], (vptr b at₁ ∷ [], (slice_val a₁.ref_ptr (length a₁.now) ∷ [], (A₂.val a₂ ∷ [], (slice_val a₃.ref_ptr (length a₃.now) ∷ [], tt)))))), tt)
 
-    asked : Is (state_row S₀) (hd h) (mach (hd h) ∷ []) → (ν₁ : ℕ) (δ₁ : GName) → ent 𝓤 (⋆ 𝓛 (‵ (flft (ν₁ ∷ []) full_share) ∷ ‵ (flft κ₁ q₁) ∷ ‵ (flft κ₃ q₃) ∷ ‵ ((MutRef (named 0) (ν₁ ∷ []) (memberRow m₁)).own_val (record { ref_ptr = (b, at₁); ghost_name = δ₁; now = (to h).1.0 }) (vptr b at₁ ∷ [])) ∷ ‵ ((MutSlice (named 1) κ₁ (row_of A₁)).own_val a₁ (slice_val a₁.ref_ptr (length a₁.now) ∷ [])) ∷ ‵ ((ShrSlice (named 2) κ₃ (row_of A₃)).own_val a₃ (slice_val a₃.ref_ptr (length a₃.now) ∷ [])) ∷ [])) ((Callee 𝓛).pre (to_callee ν₁ δ₁))
-    asked was ν₁ δ₁ = qed 𝓛 (‵ (flft (ν₁ ∷ []) full_share) ∷ ‵ (flft κ₁ q₁) ∷ ‵ (flft κ₃ q₃) ∷ ‵ ((MutRef (named 0) (ν₁ ∷ []) (memberRow m₁)).own_val (record { ref_ptr = (b, at₁); ghost_name = δ₁; now = (to h).1.0 }) (vptr b at₁ ∷ [])) ∷ ‵ ((MutSlice (named 1) κ₁ (row_of A₁)).own_val a₁ (slice_val a₁.ref_ptr (length a₁.now) ∷ [])) ∷ ‵ ((ShrSlice (named 2) κ₃ (row_of A₃)).own_val a₃ (slice_val a₃.ref_ptr (length a₃.now) ∷ [])) ∷ []) ∵ nothing ! $ move ! (6 ∷ 0 ∷ []) $ fjoin ! $ owned ! (row_of A₂) (Is (row_of A₂)) (made 𝓛 A₂) a₂ _ p₂ $ fjoin ! $ move ! (5 ∷ 0 ∷ []) $ fjoin ! $ move ! (4 ∷ 0 ∷ []) $ fjoin ! $ owned ! (state_row S₀) (Is (state_row S₀)) (LL.makes S₀.T S₀.plain 𝓛) (hd h) _ was $ fjoin ! $ nothing ! $ move ! (4 ∷ 0 ∷ []) $ join ! $ move ! (3 ∷ 0 ∷ []) $ join ! $ move ! (2 ∷ 0 ∷ []) $ join ! $ join ! $ frame ! $ nothing ! $ done !
+    asked : Is (state_row S₀) (hd h) (mach (hd h) ∷ []) → (ν₁ : ℕ) (δ₁ : GName) → ent 𝓤 (⋆ 𝓛 (‵ (flft (ν₁ ∷ []) full_share) ∷ ‵ (flft κ₁ q₁) ∷ ‵ (flft κ₃ q₃) ∷ ‵ ((MutRef (named 0) (ν₁ ∷ []) (member_row m₁)).own_val (record { ref_ptr = (b, at₁); ghost_name = δ₁; now = (to h).1.0 }) (vptr b at₁ ∷ [])) ∷ ‵ ((MutSlice (named 1) κ₁ (row_of A₁)).own_val a₁ (slice_val a₁.ref_ptr (length a₁.now) ∷ [])) ∷ ‵ ((ShrSlice (named 2) κ₃ (row_of A₃)).own_val a₃ (slice_val a₃.ref_ptr (length a₃.now) ∷ [])) ∷ [])) ((Callee 𝓛).pre (to_callee ν₁ δ₁))
+    asked was ν₁ δ₁ = qed 𝓛 (‵ (flft (ν₁ ∷ []) full_share) ∷ ‵ (flft κ₁ q₁) ∷ ‵ (flft κ₃ q₃) ∷ ‵ ((MutRef (named 0) (ν₁ ∷ []) (member_row m₁)).own_val (record { ref_ptr = (b, at₁); ghost_name = δ₁; now = (to h).1.0 }) (vptr b at₁ ∷ [])) ∷ ‵ ((MutSlice (named 1) κ₁ (row_of A₁)).own_val a₁ (slice_val a₁.ref_ptr (length a₁.now) ∷ [])) ∷ ‵ ((ShrSlice (named 2) κ₃ (row_of A₃)).own_val a₃ (slice_val a₃.ref_ptr (length a₃.now) ∷ [])) ∷ []) ∵ nothing ! $ move ! (6 ∷ 0 ∷ []) $ fjoin ! $ owned ! (row_of A₂) (Is (row_of A₂)) (made 𝓛 A₂) a₂ _ p₂ $ fjoin ! $ move ! (5 ∷ 0 ∷ []) $ fjoin ! $ move ! (4 ∷ 0 ∷ []) $ fjoin ! $ owned ! (state_row S₀) (Is (state_row S₀)) (LL.makes S₀.T S₀.plain 𝓛) (hd h) _ was $ fjoin ! $ nothing ! $ move ! (4 ∷ 0 ∷ []) $ join ! $ move ! (3 ∷ 0 ∷ []) $ join ! $ move ! (2 ∷ 0 ∷ []) $ join ! $ join ! $ frame ! $ nothing ! $ done !
 
     ends : (r : O.row.Denot) (z₁ : List A₁.X) (l₁ : length z₁ ≡ length a₁.now) → Is (row_of Ans) (O.ans r) (Ans.val (O.ans r) ∷ []) → (O.ans r ≡ ans h a₁.now a₂ a₃.now) × (z₁ ≡ last₁ h a₁.now a₂ a₃.now) → ent 𝓤 (⋆ 𝓛 (‵ (fobs γ (Row.coded.code (next h a₁.now a₂ a₃.now))) ∷ ‵ (fbor κ (Body (mem Row) b o γ)) ∷ ‵ (flft κ q) ∷ ‵ (flft κ₁ q₁) ∷ ‵ (flft κ₃ q₃) ∷ ‵ ((ShrSlice (named 2) κ₃ (row_of A₃)).own_val a₃ (slice_val a₃.ref_ptr (length a₃.now) ∷ [])) ∷ ‵ (finally (row_of A₁) a₁.ghost_name z₁) ∷ [])) (After (Ans.val (O.ans r)))
     ends r z₁ l₁ is e =
@@ -170,11 +170,11 @@ module _ (S₀ : State) (ν : Sym) (m₁ : Member) (D : Type 0) (to : D → Deno
         (as_fields (Ans.ty ∷ τV ∷ []) (Ans.val (O.ans r) ∷ mach (O.st r) ∷ []) (Ans.typed (O.ans r) (O.ans_is r _ is), (((LL.lawful S₀.T S₀.L 𝓛).typed (O.st r) _ (O.st_is r _ is)).0, tt)))
 
     -- the head in memory is its cell with what it owns, and back
-    opened : ent 𝓤 (sem 𝓛 (part_at (memberRow (state_member S₀)) full_share (to h).0 b at₀)) (ex 𝓤 (λ (vs : List Val). sep 𝓤 (sem 𝓛 (cell_at full_share (state_row S₀).mir vs b at₀)) (sem 𝓛 ((state_row S₀).own (hd h) vs))))
+    opened : ent 𝓤 (sem 𝓛 (part_at (member_row (state_member S₀)) full_share (to h).0 b at₀)) (ex 𝓤 (λ (vs : List Val). sep 𝓤 (sem 𝓛 (cell_at full_share (state_row S₀).mir vs b at₀)) (sem 𝓛 ((state_row S₀).own (hd h) vs))))
     unfolding part_of
-    opened = subst (λ (u : (memberRow (state_member S₀)).Denot). ent 𝓤 (sem 𝓛 (part_at (memberRow (state_member S₀)) full_share u b at₀)) (ex 𝓤 (λ (vs : List Val). sep 𝓤 (sem 𝓛 (cell_at full_share (state_row S₀).mir vs b at₀)) (sem 𝓛 ((state_row S₀).own (hd h) vs))))) (sym (hd_is h)) (id⊢ 𝓤 _)
+    opened = subst (λ (u : (member_row (state_member S₀)).Denot). ent 𝓤 (sem 𝓛 (part_at (member_row (state_member S₀)) full_share u b at₀)) (ex 𝓤 (λ (vs : List Val). sep 𝓤 (sem 𝓛 (cell_at full_share (state_row S₀).mir vs b at₀)) (sem 𝓛 ((state_row S₀).own (hd h) vs))))) (sym (hd_is h)) (id⊢ 𝓤 _)
 
-    shut : (d : S₀.T.D) (vs : List Val) → ent 𝓤 (sep 𝓤 (sem 𝓛 (cell_at full_share (state_row S₀).mir vs b at₀)) (sem 𝓛 ((state_row S₀).own d vs))) (sem 𝓛 (part_at (memberRow (state_member S₀)) full_share (S₀.T.to d) b at₀))
+    shut : (d : S₀.T.D) (vs : List Val) → ent 𝓤 (sep 𝓤 (sem 𝓛 (cell_at full_share (state_row S₀).mir vs b at₀)) (sem 𝓛 ((state_row S₀).own d vs))) (sem 𝓛 (part_at (member_row (state_member S₀)) full_share (S₀.T.to d) b at₀))
     unfolding part_of
     shut d vs = ex_i 𝓤 (λ (us : List Val). sep 𝓤 (sem 𝓛 (cell_at full_share (state_row S₀).mir us b at₀)) (sem 𝓛 ((state_row S₀).own d us))) vs
 
@@ -204,14 +204,14 @@ module _ (S₀ : State) (ν : Sym) (m₁ : Member) (D : Type 0) (to : D → Deno
           assigns ! (addr ! (from ! (hop ! (look ! 27 refl) (fld ! refl (stop !))))) (from ! (stop !)) (init ! 15 refl (tt, tt)) $
           assigns ! (addr ! (from ! (fld ! refl (hop ! (look_in ! 25 (sub ! 0 refl (whole !))) (stop !))))) (from ! (stop !)) (init ! 13 refl (tt, tt)) $
           assigns ! (agg ! (and_then ! (load ! (from ! (stop !)) (look ! 13 refl)) (and_then ! (load ! (from ! (fld ! refl (stop !))) (look_in ! 25 (sub ! 1 refl (whole !)))) (no_more !)))) (from ! (stop !)) (init ! 11 refl (tt, (tt, (record { fits = p₁.0.1.0 }, tt)))) $
-          lft_new ! tt (λ ν₁. move ! (3 ∷ []) $ use1 𝓛 (later (some (λ (δ : GName). ‵ ((MutRef (named 0) (ν₁ ∷ []) (memberRow m₁)).own_val (record { ref_ptr = (b, at₁); ghost_name = δ; now = (to h).1.0 }) (vptr b at₁ ∷ [])) ⊛ ‵ (flent (ν₁ ∷ []) (Body (mem (memberRow m₁)) b at₁ δ))))) (lends_ref 𝓛 (memberRow m₁) (named 0) (ν₁ ∷ []) (to h).1.0 b at₁) $ await ! tt $ pick ! (λ δ₁. split ! $
+          lft_new ! tt (λ ν₁. move ! (3 ∷ []) $ use1 𝓛 (later (some (λ (δ : GName). ‵ ((MutRef (named 0) (ν₁ ∷ []) (member_row m₁)).own_val (record { ref_ptr = (b, at₁); ghost_name = δ; now = (to h).1.0 }) (vptr b at₁ ∷ [])) ⊛ ‵ (flent (ν₁ ∷ []) (Body (mem (member_row m₁)) b at₁ δ))))) (lends_ref 𝓛 (member_row m₁) (named 0) (ν₁ ∷ []) (to h).1.0 b at₁) $ await ! tt $ pick ! (λ δ₁. split ! $
           move ! (11 ∷ []) $ use1 𝓛 (‵ ((ShrSlice (named 2) κ₃ (row_of A₃)).own_val a₃ (slice_val a₃.ref_ptr (length a₃.now) ∷ [])) ⊛ ‵ ((ShrSlice (named 2) κ₃ (row_of A₃)).own_val a₃ (slice_val a₃.ref_ptr (length a₃.now) ∷ []))) ((shr_slice_copy 𝓛 (named 2) κ₃ (row_of A₃)).twice a₃ (slice_val a₃.ref_ptr (length a₃.now) ∷ [])) $ split ! $ move ! (13 ∷ 0 ∷ []) $ join ! $ move ! (2 ∷ 0 ∷ []) $ join ! $ move ! (10 ∷ 0 ∷ []) $ join ! $ move ! (10 ∷ 0 ∷ []) $ join ! $ move ! (3 ∷ 0 ∷ []) $ join ! $ use1 𝓛 (raw ((Callee 𝓛).pre (to_callee ν₁ δ₁))) (asked was ν₁ δ₁) $ calls_at ! fm (Callee 𝓛) known (to_callee ν₁ δ₁) (and_then ! (load ! (from ! (stop !)) (look ! 17 refl)) (and_then ! (load ! (from ! (stop !)) (look ! 13 refl)) (and_then ! (load ! (from ! (stop !)) (look ! 9 refl)) (and_then ! (load ! (from ! (stop !)) (look ! 21 refl)) (and_then ! (load ! (from ! (stop !)) (look ! 19 refl)) (no_more !)))))) (λ u.
           use1 𝓛 (later (some (λ (r : O.row.Denot). ((‵ (flft (ν₁ ∷ []) full_share) ⊛ ‵ (flft κ₁ q₁) ⊛ ‵ (flft κ₃ q₃) ⊛ ‵ ftrue) ⊛ ‵ (O.row.own_val r (u ∷ []))) ⊛ raw ((callee_spec 𝓛 (ν₁ ∷ [], (κ₁, (κ₃, tt))) ((hd h), (record { ref_ptr = (b, at₁); ghost_name = δ₁; now = (to h).1.0 }, (a₁, (a₂, (a₃, tt)))))).ensures tt r)))) (id⊢ 𝓤 _) $ await ! tt $ pick ! (λ r. split ! $ move ! (1 ∷ []) $ use1 𝓛 (some (λ (ws : Fins (ν₁ ∷ [], (κ₁, (κ₃, tt))) callee.params (yes, (yes, (yes, (yes, (yes, tt))))) ((hd h), (record { ref_ptr = (b, at₁); ghost_name = δ₁; now = (to h).1.0 }, (a₁, (a₂, (a₃, tt)))))). ‵ (lasts_of (ν₁ ∷ [], (κ₁, (κ₃, tt))) callee.params (yes, (yes, (yes, (yes, (yes, tt))))) ((hd h), (record { ref_ptr = (b, at₁); ghost_name = δ₁; now = (to h).1.0 }, (a₁, (a₂, (a₃, tt))))) ws) ⊛ raw (fact 𝓤 ((r ≡ spec (hd h) (to h).1.0 a₁.now a₂ a₃.now) × (ws.1.0 ≡ set₁ (hd h) (to h).1.0 a₁.now a₂ a₃.now) × (ws.1.1.0 ≡ fill₁ (hd h) (to h).1.0 a₁.now a₂ a₃.now))))) (id⊢ 𝓤 _) $ pick ! (λ ws. split ! $ move ! (1 ∷ []) $ heard ! ((r ≡ spec (hd h) (to h).1.0 a₁.now a₂ a₃.now) × (ws.1.0 ≡ set₁ (hd h) (to h).1.0 a₁.now a₂ a₃.now) × (ws.1.1.0 ≡ fill₁ (hd h) (to h).1.0 a₁.now a₂ a₃.now)) (λ e. fsplit ! $ drop ! $ fsplit ! $ move ! (1 ∷ []) $ fsplit ! $ fsplit ! $ move ! (1 ∷ []) $ feq_l ! (λ l₁. move ! (1 ∷ []) $ drop ! $ move ! (2 ∷ []) $ split ! $ split ! $ move ! (1 ∷ []) $ split ! $ move ! (1 ∷ []) $ split ! $ move ! (1 ∷ []) $ drop ! $ move ! (3 ∷ []) $ peeks ! O.row (Is O.row) (shows 𝓛 O.row) r (u ∷ []) (λ is.
           land ! (from ! (stop !)) (init ! 20 refl (typed_out r u is)) $ rewrite ! 20 (λ (u' : Val). ‵ (fat full_share τO b₆ 0 u')) (ap only (O.tells r _ is)) refl $
           assigns ! (of_opd ! (load ! (from ! (fld ! refl (stop !))) (look_in ! 20 (sub ! 1 refl (whole !))))) (from ! (hop ! (look ! 30 refl) (fld ! refl (stop !)))) (store_raw ! 9 refl ((LL.lawful S₀.T S₀.L 𝓛).typed (O.st r) _ (O.st_is r _ is)).0) $
           assigns ! (of_opd ! (load ! (from ! (fld ! refl (stop !))) (look_in ! 20 (sub ! 0 refl (whole !))))) (from ! (stop !)) (init ! 32 refl (Ans.typed (O.ans r) (O.ans_is r _ is))) $
-          drop ! $ move ! (7 ∷ []) $ drop ! $ owned ! (state_row S₀) (Is (state_row S₀)) (LL.makes S₀.T S₀.plain 𝓛) (O.st r) _ (O.st_is r _ is) $ move ! (8 ∷ 0 ∷ []) $ use2 𝓛 (‵ (part_at (memberRow (state_member S₀)) full_share (S₀.T.to (O.st r)) b at₀)) (shut (O.st r) (mach (O.st r) ∷ [])) $
-          move ! (3 ∷ []) $ lft_end ! tt $ move ! (0 ∷ 7 ∷ 5 ∷ []) $ use3 𝓛 (later (‵ (part_at (memberRow m₁) full_share ws.1.0 b at₁))) (ref_back 𝓛 (memberRow m₁) (ν₁ ∷ []) δ₁ ws.1.0 b at₁) $ await ! tt $
+          drop ! $ move ! (7 ∷ []) $ drop ! $ owned ! (state_row S₀) (Is (state_row S₀)) (LL.makes S₀.T S₀.plain 𝓛) (O.st r) _ (O.st_is r _ is) $ move ! (8 ∷ 0 ∷ []) $ use2 𝓛 (‵ (part_at (member_row (state_member S₀)) full_share (S₀.T.to (O.st r)) b at₀)) (shut (O.st r) (mach (O.st r) ∷ [])) $
+          move ! (3 ∷ []) $ lft_end ! tt $ move ! (0 ∷ 7 ∷ 5 ∷ []) $ use3 𝓛 (later (‵ (part_at (member_row m₁) full_share ws.1.0 b at₁))) (ref_back 𝓛 (member_row m₁) (ν₁ ∷ []) δ₁ ws.1.0 b at₁) $ await ! tt $
           nothing ! $ move ! (1 ∷ 0 ∷ []) $ fjoin ! $ move ! (1 ∷ 0 ∷ []) $ fjoin ! $ move ! (0 ∷ 5 ∷ []) $ use2 𝓛 (‵ (part_at Row full_share (next h a₁.now a₂ a₃.now) b o)) (together (S₀.T.to (O.st r), (ws.1.0, tt)) ((λ i. (S₀.T.to (O.st (e.0 i)), (e.1 i, tt))) ∙ next_is h a₁.now a₂ a₃.now)) $
           move ! (0 ∷ 5 ∷ 6 ∷ 7 ∷ []) $ close_ref ! tt (mem Row) (next h a₁.now a₂ a₃.now) {b = b} {o = o} $ returns ! (look ! 25 refl) $ forget ! 25 refl $ forget ! 23 refl $ forget ! 21 refl $ forget ! 19 refl $ forget ! 17 refl $ forget ! 15 refl $ forget ! 13 refl $ forget ! 11 refl $ forget ! 9 refl $ forget ! 7 refl $
           move ! (25 ∷ 26 ∷ []) $ free1 ! $ move ! (23 ∷ 24 ∷ []) $ free1 ! $ move ! (21 ∷ 22 ∷ []) $ free1 ! $ move ! (19 ∷ 20 ∷ []) $ free1 ! $ move ! (17 ∷ 18 ∷ []) $ free1 ! $ move ! (15 ∷ 16 ∷ []) $ free1 ! $ move ! (13 ∷ 14 ∷ []) $ free1 ! $ move ! (11 ∷ 12 ∷ []) $ free1 ! $ move ! (9 ∷ 10 ∷ []) $ free1 ! $ move ! (7 ∷ 8 ∷ []) $ free1 ! $ free0 ! $ keep ! (0 ∷ 1 ∷ 2 ∷ 4 ∷ 3 ∷ 6 ∷ 5 ∷ []) $ by ! (ends r ws.1.1.0 l₁ (O.ans_is r _ is) (ap O.ans e.0 ∙ ans_is h a₁.now a₂ a₃.now, e.2 ∙ last_is₁ h a₁.now a₂ a₃.now))))))))))))))))))))))

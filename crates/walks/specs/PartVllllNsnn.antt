@@ -40,7 +40,7 @@ use denote.Struct.Steps.{spelt}
 use denote.Struct.Struct.{Struct, layout, as_fields}
 use denote.Struct.Declared.{shape}
 use denote.Struct.Recorded.{Recorded, Recorded-part}
-use denote.Struct.Members.{Member, row_of as memberRow, rows_of, parts_at}
+use denote.Struct.Members.{Member, row_of as member_row, rows_of, parts_at}
 use denote.Struct.Parts.{shape_of, PartsBack, Struct-parts}
 use denote.Triple.Statement.{Contract, Triple}
 use denote.Triple.Call.{calls_at}
@@ -85,7 +85,7 @@ module _ (S₀ : State) (ν : Sym) (m₁ m₂ m₃ m₄ : Member) (D : Type 0) (
   }
 
   abbrev pub callee : Signature
-  callee = record { lifetimes = 5; outlives = []; params = plain (λ _. state_row S₀) ∷ RefMutOf (0 ∷ []) tt (plain (λ _. memberRow m₁)) (λ _. tt) ∷ RefMutOf (1 ∷ []) tt (plain (λ _. memberRow m₂)) (λ _. tt) ∷ RefMutOf (2 ∷ []) tt (plain (λ _. memberRow m₃)) (λ _. tt) ∷ RefMutOf (3 ∷ []) tt (plain (λ _. memberRow m₄)) (λ _. tt) ∷ plain (λ _. row_of A₁) ∷ SliceRefOf (4 ∷ []) tt (plain (λ _. row_of A₂)) (λ _. tt) ∷ plain (λ _. row_of A₃) ∷ plain (λ _. row_of A₄) ∷ []; result = plain (λ _. O.row) }
+  callee = record { lifetimes = 5; outlives = []; params = plain (λ _. state_row S₀) ∷ RefMutOf (0 ∷ []) tt (plain (λ _. member_row m₁)) (λ _. tt) ∷ RefMutOf (1 ∷ []) tt (plain (λ _. member_row m₂)) (λ _. tt) ∷ RefMutOf (2 ∷ []) tt (plain (λ _. member_row m₃)) (λ _. tt) ∷ RefMutOf (3 ∷ []) tt (plain (λ _. member_row m₄)) (λ _. tt) ∷ plain (λ _. row_of A₁) ∷ SliceRefOf (4 ∷ []) tt (plain (λ _. row_of A₂)) (λ _. tt) ∷ plain (λ _. row_of A₃) ∷ plain (λ _. row_of A₄) ∷ []; result = plain (λ _. O.row) }
 
   abbrev pub signature : Signature
   signature = record { lifetimes = 2; outlives = []; params = RefMutOf (0 ∷ []) tt (plain (λ _. Row)) (λ _. tt) ∷ plain (λ _. row_of A₁) ∷ SliceRefOf (1 ∷ []) tt (plain (λ _. row_of A₂)) (λ _. tt) ∷ plain (λ _. row_of A₃) ∷ plain (λ _. row_of A₄) ∷ []; result = plain (λ _. row_of Ans) }
@@ -174,8 +174,8 @@ module _ (S₀ : State) (ν : Sym) (m₁ m₂ m₃ m₄ : Member) (D : Type 0) (
     abbrev to_callee : ℕ → GName → ℕ → GName → ℕ → GName → ℕ → GName → (Callee 𝓛).Ghost
     to_callee ν₁ δ₁ ν₂ δ₂ ν₃ δ₃ ν₄ δ₄ = (((ν₁ ∷ [], (ν₂ ∷ [], (ν₃ ∷ [], (ν₄ ∷ [], (κ₂, tt))))), (full_share, (full_share, (full_share, (full_share, (q₂, tt))))), tt, ((hd h), (record { ref_ptr = (b, at₁); ghost_name = δ₁; now = (to h).1.0 }, (record { ref_ptr = (b, at₂); ghost_name = δ₂; now = (to h).1.1.0 }, (record { ref_ptr = (b, at₃); ghost_name = δ₃; now = (to h).1.1.1.0 }, (record { ref_ptr = (b, at₄); ghost_name = δ₄; now = (to h).1.1.1.1.0 }, (a₁, (a₂, (a₃, (a₄, tt))))))))), (mach (hd h) ∷ [], (vptr b at₁ ∷ [], (vptr b at₂ ∷ [], (vptr b at₃ ∷ [], (vptr b at₄ ∷ [], (A₁.val a₁ ∷ [], (slice_val a₂.ref_ptr (length a₂.now) ∷ [], (A₃.val a₃ ∷ [], (A₄.val a₄ ∷ [], tt)))))))))), tt)
 
-    asked : Is (state_row S₀) (hd h) (mach (hd h) ∷ []) → (ν₁ : ℕ) (δ₁ : GName) (ν₂ : ℕ) (δ₂ : GName) (ν₃ : ℕ) (δ₃ : GName) (ν₄ : ℕ) (δ₄ : GName) → ent 𝓤 (⋆ 𝓛 (‵ (flft (ν₁ ∷ []) full_share) ∷ ‵ (flft (ν₂ ∷ []) full_share) ∷ ‵ (flft (ν₃ ∷ []) full_share) ∷ ‵ (flft (ν₄ ∷ []) full_share) ∷ ‵ (flft κ₂ q₂) ∷ ‵ ((MutRef (named 0) (ν₁ ∷ []) (memberRow m₁)).own_val (record { ref_ptr = (b, at₁); ghost_name = δ₁; now = (to h).1.0 }) (vptr b at₁ ∷ [])) ∷ ‵ ((MutRef (named 1) (ν₂ ∷ []) (memberRow m₂)).own_val (record { ref_ptr = (b, at₂); ghost_name = δ₂; now = (to h).1.1.0 }) (vptr b at₂ ∷ [])) ∷ ‵ ((MutRef (named 2) (ν₃ ∷ []) (memberRow m₃)).own_val (record { ref_ptr = (b, at₃); ghost_name = δ₃; now = (to h).1.1.1.0 }) (vptr b at₃ ∷ [])) ∷ ‵ ((MutRef (named 3) (ν₄ ∷ []) (memberRow m₄)).own_val (record { ref_ptr = (b, at₄); ghost_name = δ₄; now = (to h).1.1.1.1.0 }) (vptr b at₄ ∷ [])) ∷ ‵ ((ShrSlice (named 1) κ₂ (row_of A₂)).own_val a₂ (slice_val a₂.ref_ptr (length a₂.now) ∷ [])) ∷ [])) ((Callee 𝓛).pre (to_callee ν₁ δ₁ ν₂ δ₂ ν₃ δ₃ ν₄ δ₄))
-    asked was ν₁ δ₁ ν₂ δ₂ ν₃ δ₃ ν₄ δ₄ = qed 𝓛 (‵ (flft (ν₁ ∷ []) full_share) ∷ ‵ (flft (ν₂ ∷ []) full_share) ∷ ‵ (flft (ν₃ ∷ []) full_share) ∷ ‵ (flft (ν₄ ∷ []) full_share) ∷ ‵ (flft κ₂ q₂) ∷ ‵ ((MutRef (named 0) (ν₁ ∷ []) (memberRow m₁)).own_val (record { ref_ptr = (b, at₁); ghost_name = δ₁; now = (to h).1.0 }) (vptr b at₁ ∷ [])) ∷ ‵ ((MutRef (named 1) (ν₂ ∷ []) (memberRow m₂)).own_val (record { ref_ptr = (b, at₂); ghost_name = δ₂; now = (to h).1.1.0 }) (vptr b at₂ ∷ [])) ∷ ‵ ((MutRef (named 2) (ν₃ ∷ []) (memberRow m₃)).own_val (record { ref_ptr = (b, at₃); ghost_name = δ₃; now = (to h).1.1.1.0 }) (vptr b at₃ ∷ [])) ∷ ‵ ((MutRef (named 3) (ν₄ ∷ []) (memberRow m₄)).own_val (record { ref_ptr = (b, at₄); ghost_name = δ₄; now = (to h).1.1.1.1.0 }) (vptr b at₄ ∷ [])) ∷ ‵ ((ShrSlice (named 1) κ₂ (row_of A₂)).own_val a₂ (slice_val a₂.ref_ptr (length a₂.now) ∷ [])) ∷ []) ∵ nothing ! $ owned ! (row_of A₄) (Is (row_of A₄)) (made 𝓛 A₄) a₄ _ p₄ $ fjoin ! $ owned ! (row_of A₃) (Is (row_of A₃)) (made 𝓛 A₃) a₃ _ p₃ $ fjoin ! $ move ! (10 ∷ 0 ∷ []) $ fjoin ! $ owned ! (row_of A₁) (Is (row_of A₁)) (made 𝓛 A₁) a₁ _ p₁ $ fjoin ! $ move ! (9 ∷ 0 ∷ []) $ fjoin ! $ move ! (8 ∷ 0 ∷ []) $ fjoin ! $ move ! (7 ∷ 0 ∷ []) $ fjoin ! $ move ! (6 ∷ 0 ∷ []) $ fjoin ! $ owned ! (state_row S₀) (Is (state_row S₀)) (LL.makes S₀.T S₀.plain 𝓛) (hd h) _ was $ fjoin ! $ nothing ! $ move ! (6 ∷ 0 ∷ []) $ join ! $ move ! (5 ∷ 0 ∷ []) $ join ! $ move ! (4 ∷ 0 ∷ []) $ join ! $ move ! (3 ∷ 0 ∷ []) $ join ! $ move ! (2 ∷ 0 ∷ []) $ join ! $ join ! $ frame ! $ nothing ! $ done !
+    asked : Is (state_row S₀) (hd h) (mach (hd h) ∷ []) → (ν₁ : ℕ) (δ₁ : GName) (ν₂ : ℕ) (δ₂ : GName) (ν₃ : ℕ) (δ₃ : GName) (ν₄ : ℕ) (δ₄ : GName) → ent 𝓤 (⋆ 𝓛 (‵ (flft (ν₁ ∷ []) full_share) ∷ ‵ (flft (ν₂ ∷ []) full_share) ∷ ‵ (flft (ν₃ ∷ []) full_share) ∷ ‵ (flft (ν₄ ∷ []) full_share) ∷ ‵ (flft κ₂ q₂) ∷ ‵ ((MutRef (named 0) (ν₁ ∷ []) (member_row m₁)).own_val (record { ref_ptr = (b, at₁); ghost_name = δ₁; now = (to h).1.0 }) (vptr b at₁ ∷ [])) ∷ ‵ ((MutRef (named 1) (ν₂ ∷ []) (member_row m₂)).own_val (record { ref_ptr = (b, at₂); ghost_name = δ₂; now = (to h).1.1.0 }) (vptr b at₂ ∷ [])) ∷ ‵ ((MutRef (named 2) (ν₃ ∷ []) (member_row m₃)).own_val (record { ref_ptr = (b, at₃); ghost_name = δ₃; now = (to h).1.1.1.0 }) (vptr b at₃ ∷ [])) ∷ ‵ ((MutRef (named 3) (ν₄ ∷ []) (member_row m₄)).own_val (record { ref_ptr = (b, at₄); ghost_name = δ₄; now = (to h).1.1.1.1.0 }) (vptr b at₄ ∷ [])) ∷ ‵ ((ShrSlice (named 1) κ₂ (row_of A₂)).own_val a₂ (slice_val a₂.ref_ptr (length a₂.now) ∷ [])) ∷ [])) ((Callee 𝓛).pre (to_callee ν₁ δ₁ ν₂ δ₂ ν₃ δ₃ ν₄ δ₄))
+    asked was ν₁ δ₁ ν₂ δ₂ ν₃ δ₃ ν₄ δ₄ = qed 𝓛 (‵ (flft (ν₁ ∷ []) full_share) ∷ ‵ (flft (ν₂ ∷ []) full_share) ∷ ‵ (flft (ν₃ ∷ []) full_share) ∷ ‵ (flft (ν₄ ∷ []) full_share) ∷ ‵ (flft κ₂ q₂) ∷ ‵ ((MutRef (named 0) (ν₁ ∷ []) (member_row m₁)).own_val (record { ref_ptr = (b, at₁); ghost_name = δ₁; now = (to h).1.0 }) (vptr b at₁ ∷ [])) ∷ ‵ ((MutRef (named 1) (ν₂ ∷ []) (member_row m₂)).own_val (record { ref_ptr = (b, at₂); ghost_name = δ₂; now = (to h).1.1.0 }) (vptr b at₂ ∷ [])) ∷ ‵ ((MutRef (named 2) (ν₃ ∷ []) (member_row m₃)).own_val (record { ref_ptr = (b, at₃); ghost_name = δ₃; now = (to h).1.1.1.0 }) (vptr b at₃ ∷ [])) ∷ ‵ ((MutRef (named 3) (ν₄ ∷ []) (member_row m₄)).own_val (record { ref_ptr = (b, at₄); ghost_name = δ₄; now = (to h).1.1.1.1.0 }) (vptr b at₄ ∷ [])) ∷ ‵ ((ShrSlice (named 1) κ₂ (row_of A₂)).own_val a₂ (slice_val a₂.ref_ptr (length a₂.now) ∷ [])) ∷ []) ∵ nothing ! $ owned ! (row_of A₄) (Is (row_of A₄)) (made 𝓛 A₄) a₄ _ p₄ $ fjoin ! $ owned ! (row_of A₃) (Is (row_of A₃)) (made 𝓛 A₃) a₃ _ p₃ $ fjoin ! $ move ! (10 ∷ 0 ∷ []) $ fjoin ! $ owned ! (row_of A₁) (Is (row_of A₁)) (made 𝓛 A₁) a₁ _ p₁ $ fjoin ! $ move ! (9 ∷ 0 ∷ []) $ fjoin ! $ move ! (8 ∷ 0 ∷ []) $ fjoin ! $ move ! (7 ∷ 0 ∷ []) $ fjoin ! $ move ! (6 ∷ 0 ∷ []) $ fjoin ! $ owned ! (state_row S₀) (Is (state_row S₀)) (LL.makes S₀.T S₀.plain 𝓛) (hd h) _ was $ fjoin ! $ nothing ! $ move ! (6 ∷ 0 ∷ []) $ join ! $ move ! (5 ∷ 0 ∷ []) $ join ! $ move ! (4 ∷ 0 ∷ []) $ join ! $ move ! (3 ∷ 0 ∷ []) $ join ! $ move ! (2 ∷ 0 ∷ []) $ join ! $ join ! $ frame ! $ nothing ! $ done !
 
     ends : (r : O.row.Denot) → Is (row_of Ans) (O.ans r) (Ans.val (O.ans r) ∷ []) → O.ans r ≡ ans h a₁ a₂.now a₃ a₄ → ent 𝓤 (⋆ 𝓛 (‵ (fobs γ (Row.coded.code (next h a₁ a₂.now a₃ a₄))) ∷ ‵ (fbor κ (Body (mem Row) b o γ)) ∷ ‵ (flft κ q) ∷ ‵ (flft κ₂ q₂) ∷ ‵ ((ShrSlice (named 1) κ₂ (row_of A₂)).own_val a₂ (slice_val a₂.ref_ptr (length a₂.now) ∷ [])) ∷ [])) (After (Ans.val (O.ans r)))
     ends r is e =
@@ -188,11 +188,11 @@ module _ (S₀ : State) (ν : Sym) (m₁ m₂ m₃ m₄ : Member) (D : Type 0) (
         (as_fields (Ans.ty ∷ τV ∷ []) (Ans.val (O.ans r) ∷ mach (O.st r) ∷ []) (Ans.typed (O.ans r) (O.ans_is r _ is), (((LL.lawful S₀.T S₀.L 𝓛).typed (O.st r) _ (O.st_is r _ is)).0, tt)))
 
     -- the head in memory is its cell with what it owns, and back
-    opened : ent 𝓤 (sem 𝓛 (part_at (memberRow (state_member S₀)) full_share (to h).0 b at₀)) (ex 𝓤 (λ (vs : List Val). sep 𝓤 (sem 𝓛 (cell_at full_share (state_row S₀).mir vs b at₀)) (sem 𝓛 ((state_row S₀).own (hd h) vs))))
+    opened : ent 𝓤 (sem 𝓛 (part_at (member_row (state_member S₀)) full_share (to h).0 b at₀)) (ex 𝓤 (λ (vs : List Val). sep 𝓤 (sem 𝓛 (cell_at full_share (state_row S₀).mir vs b at₀)) (sem 𝓛 ((state_row S₀).own (hd h) vs))))
     unfolding part_of
-    opened = subst (λ (u : (memberRow (state_member S₀)).Denot). ent 𝓤 (sem 𝓛 (part_at (memberRow (state_member S₀)) full_share u b at₀)) (ex 𝓤 (λ (vs : List Val). sep 𝓤 (sem 𝓛 (cell_at full_share (state_row S₀).mir vs b at₀)) (sem 𝓛 ((state_row S₀).own (hd h) vs))))) (sym (hd_is h)) (id⊢ 𝓤 _)
+    opened = subst (λ (u : (member_row (state_member S₀)).Denot). ent 𝓤 (sem 𝓛 (part_at (member_row (state_member S₀)) full_share u b at₀)) (ex 𝓤 (λ (vs : List Val). sep 𝓤 (sem 𝓛 (cell_at full_share (state_row S₀).mir vs b at₀)) (sem 𝓛 ((state_row S₀).own (hd h) vs))))) (sym (hd_is h)) (id⊢ 𝓤 _)
 
-    shut : (d : S₀.T.D) (vs : List Val) → ent 𝓤 (sep 𝓤 (sem 𝓛 (cell_at full_share (state_row S₀).mir vs b at₀)) (sem 𝓛 ((state_row S₀).own d vs))) (sem 𝓛 (part_at (memberRow (state_member S₀)) full_share (S₀.T.to d) b at₀))
+    shut : (d : S₀.T.D) (vs : List Val) → ent 𝓤 (sep 𝓤 (sem 𝓛 (cell_at full_share (state_row S₀).mir vs b at₀)) (sem 𝓛 ((state_row S₀).own d vs))) (sem 𝓛 (part_at (member_row (state_member S₀)) full_share (S₀.T.to d) b at₀))
     unfolding part_of
     shut d vs = ex_i 𝓤 (λ (us : List Val). sep 𝓤 (sem 𝓛 (cell_at full_share (state_row S₀).mir us b at₀)) (sem 𝓛 ((state_row S₀).own d us))) vs
 
@@ -223,20 +223,20 @@ module _ (S₀ : State) (ν : Sym) (m₁ m₂ m₃ m₄ : Member) (D : Type 0) (
           assigns ! (addr ! (from ! (hop ! (look ! 32 refl) (fld ! refl (stop !))))) (from ! (stop !)) (init ! 16 refl (tt, tt)) $
           assigns ! (addr ! (from ! (hop ! (look ! 32 refl) (fld ! refl (stop !))))) (from ! (stop !)) (init ! 14 refl (tt, tt)) $
           assigns ! (addr ! (from ! (hop ! (look ! 32 refl) (fld ! refl (stop !))))) (from ! (stop !)) (init ! 12 refl (tt, tt)) $
-          lft_new ! tt (λ ν₁. move ! (6 ∷ []) $ use1 𝓛 (later (some (λ (δ : GName). ‵ ((MutRef (named 0) (ν₁ ∷ []) (memberRow m₁)).own_val (record { ref_ptr = (b, at₁); ghost_name = δ; now = (to h).1.0 }) (vptr b at₁ ∷ [])) ⊛ ‵ (flent (ν₁ ∷ []) (Body (mem (memberRow m₁)) b at₁ δ))))) (lends_ref 𝓛 (memberRow m₁) (named 0) (ν₁ ∷ []) (to h).1.0 b at₁) $ await ! tt $ pick ! (λ δ₁. split ! $
-          lft_new ! tt (λ ν₂. move ! (8 ∷ []) $ use1 𝓛 (later (some (λ (δ : GName). ‵ ((MutRef (named 1) (ν₂ ∷ []) (memberRow m₂)).own_val (record { ref_ptr = (b, at₂); ghost_name = δ; now = (to h).1.1.0 }) (vptr b at₂ ∷ [])) ⊛ ‵ (flent (ν₂ ∷ []) (Body (mem (memberRow m₂)) b at₂ δ))))) (lends_ref 𝓛 (memberRow m₂) (named 1) (ν₂ ∷ []) (to h).1.1.0 b at₂) $ await ! tt $ pick ! (λ δ₂. split ! $
-          lft_new ! tt (λ ν₃. move ! (10 ∷ []) $ use1 𝓛 (later (some (λ (δ : GName). ‵ ((MutRef (named 2) (ν₃ ∷ []) (memberRow m₃)).own_val (record { ref_ptr = (b, at₃); ghost_name = δ; now = (to h).1.1.1.0 }) (vptr b at₃ ∷ [])) ⊛ ‵ (flent (ν₃ ∷ []) (Body (mem (memberRow m₃)) b at₃ δ))))) (lends_ref 𝓛 (memberRow m₃) (named 2) (ν₃ ∷ []) (to h).1.1.1.0 b at₃) $ await ! tt $ pick ! (λ δ₃. split ! $
-          lft_new ! tt (λ ν₄. move ! (12 ∷ []) $ use1 𝓛 (later (some (λ (δ : GName). ‵ ((MutRef (named 3) (ν₄ ∷ []) (memberRow m₄)).own_val (record { ref_ptr = (b, at₄); ghost_name = δ; now = (to h).1.1.1.1.0 }) (vptr b at₄ ∷ [])) ⊛ ‵ (flent (ν₄ ∷ []) (Body (mem (memberRow m₄)) b at₄ δ))))) (lends_ref 𝓛 (memberRow m₄) (named 3) (ν₄ ∷ []) (to h).1.1.1.1.0 b at₄) $ await ! tt $ pick ! (λ δ₄. split ! $
+          lft_new ! tt (λ ν₁. move ! (6 ∷ []) $ use1 𝓛 (later (some (λ (δ : GName). ‵ ((MutRef (named 0) (ν₁ ∷ []) (member_row m₁)).own_val (record { ref_ptr = (b, at₁); ghost_name = δ; now = (to h).1.0 }) (vptr b at₁ ∷ [])) ⊛ ‵ (flent (ν₁ ∷ []) (Body (mem (member_row m₁)) b at₁ δ))))) (lends_ref 𝓛 (member_row m₁) (named 0) (ν₁ ∷ []) (to h).1.0 b at₁) $ await ! tt $ pick ! (λ δ₁. split ! $
+          lft_new ! tt (λ ν₂. move ! (8 ∷ []) $ use1 𝓛 (later (some (λ (δ : GName). ‵ ((MutRef (named 1) (ν₂ ∷ []) (member_row m₂)).own_val (record { ref_ptr = (b, at₂); ghost_name = δ; now = (to h).1.1.0 }) (vptr b at₂ ∷ [])) ⊛ ‵ (flent (ν₂ ∷ []) (Body (mem (member_row m₂)) b at₂ δ))))) (lends_ref 𝓛 (member_row m₂) (named 1) (ν₂ ∷ []) (to h).1.1.0 b at₂) $ await ! tt $ pick ! (λ δ₂. split ! $
+          lft_new ! tt (λ ν₃. move ! (10 ∷ []) $ use1 𝓛 (later (some (λ (δ : GName). ‵ ((MutRef (named 2) (ν₃ ∷ []) (member_row m₃)).own_val (record { ref_ptr = (b, at₃); ghost_name = δ; now = (to h).1.1.1.0 }) (vptr b at₃ ∷ [])) ⊛ ‵ (flent (ν₃ ∷ []) (Body (mem (member_row m₃)) b at₃ δ))))) (lends_ref 𝓛 (member_row m₃) (named 2) (ν₃ ∷ []) (to h).1.1.1.0 b at₃) $ await ! tt $ pick ! (λ δ₃. split ! $
+          lft_new ! tt (λ ν₄. move ! (12 ∷ []) $ use1 𝓛 (later (some (λ (δ : GName). ‵ ((MutRef (named 3) (ν₄ ∷ []) (member_row m₄)).own_val (record { ref_ptr = (b, at₄); ghost_name = δ; now = (to h).1.1.1.1.0 }) (vptr b at₄ ∷ [])) ⊛ ‵ (flent (ν₄ ∷ []) (Body (mem (member_row m₄)) b at₄ δ))))) (lends_ref 𝓛 (member_row m₄) (named 3) (ν₄ ∷ []) (to h).1.1.1.1.0 b at₄) $ await ! tt $ pick ! (λ δ₄. split ! $
           move ! (19 ∷ []) $ use1 𝓛 (‵ ((ShrSlice (named 1) κ₂ (row_of A₂)).own_val a₂ (slice_val a₂.ref_ptr (length a₂.now) ∷ [])) ⊛ ‵ ((ShrSlice (named 1) κ₂ (row_of A₂)).own_val a₂ (slice_val a₂.ref_ptr (length a₂.now) ∷ []))) ((shr_slice_copy 𝓛 (named 1) κ₂ (row_of A₂)).twice a₂ (slice_val a₂.ref_ptr (length a₂.now) ∷ [])) $ split ! $ move ! (2 ∷ 0 ∷ []) $ join ! $ move ! (4 ∷ 0 ∷ []) $ join ! $ move ! (6 ∷ 0 ∷ []) $ join ! $ move ! (8 ∷ 0 ∷ []) $ join ! $ move ! (16 ∷ 0 ∷ []) $ join ! $ move ! (3 ∷ 0 ∷ []) $ join ! $ move ! (4 ∷ 0 ∷ []) $ join ! $ move ! (5 ∷ 0 ∷ []) $ join ! $ move ! (6 ∷ 0 ∷ []) $ join ! $ use1 𝓛 (raw ((Callee 𝓛).pre (to_callee ν₁ δ₁ ν₂ δ₂ ν₃ δ₃ ν₄ δ₄))) (asked was ν₁ δ₁ ν₂ δ₂ ν₃ δ₃ ν₄ δ₄) $ calls_at ! fm (Callee 𝓛) known (to_callee ν₁ δ₁ ν₂ δ₂ ν₃ δ₃ ν₄ δ₄) (and_then ! (load ! (from ! (stop !)) (look ! 22 refl)) (and_then ! (load ! (from ! (stop !)) (look ! 18 refl)) (and_then ! (load ! (from ! (stop !)) (look ! 16 refl)) (and_then ! (load ! (from ! (stop !)) (look ! 14 refl)) (and_then ! (load ! (from ! (stop !)) (look ! 12 refl)) (and_then ! (load ! (from ! (stop !)) (look ! 30 refl)) (and_then ! (load ! (from ! (stop !)) (look ! 28 refl)) (and_then ! (load ! (from ! (stop !)) (look ! 26 refl)) (and_then ! (load ! (from ! (stop !)) (look ! 24 refl)) (no_more !)))))))))) (λ u.
           use1 𝓛 (later (some (λ (r : O.row.Denot). ((‵ (flft (ν₁ ∷ []) full_share) ⊛ ‵ (flft (ν₂ ∷ []) full_share) ⊛ ‵ (flft (ν₃ ∷ []) full_share) ⊛ ‵ (flft (ν₄ ∷ []) full_share) ⊛ ‵ (flft κ₂ q₂) ⊛ ‵ ftrue) ⊛ ‵ (O.row.own_val r (u ∷ []))) ⊛ raw ((callee_spec 𝓛 (ν₁ ∷ [], (ν₂ ∷ [], (ν₃ ∷ [], (ν₄ ∷ [], (κ₂, tt))))) ((hd h), (record { ref_ptr = (b, at₁); ghost_name = δ₁; now = (to h).1.0 }, (record { ref_ptr = (b, at₂); ghost_name = δ₂; now = (to h).1.1.0 }, (record { ref_ptr = (b, at₃); ghost_name = δ₃; now = (to h).1.1.1.0 }, (record { ref_ptr = (b, at₄); ghost_name = δ₄; now = (to h).1.1.1.1.0 }, (a₁, (a₂, (a₃, (a₄, tt)))))))))).ensures tt r)))) (id⊢ 𝓤 _) $ await ! tt $ pick ! (λ r. split ! $ move ! (1 ∷ []) $ use1 𝓛 (some (λ (ws : Fins (ν₁ ∷ [], (ν₂ ∷ [], (ν₃ ∷ [], (ν₄ ∷ [], (κ₂, tt))))) callee.params (yes, (yes, (yes, (yes, (yes, (yes, (yes, (yes, (yes, tt))))))))) ((hd h), (record { ref_ptr = (b, at₁); ghost_name = δ₁; now = (to h).1.0 }, (record { ref_ptr = (b, at₂); ghost_name = δ₂; now = (to h).1.1.0 }, (record { ref_ptr = (b, at₃); ghost_name = δ₃; now = (to h).1.1.1.0 }, (record { ref_ptr = (b, at₄); ghost_name = δ₄; now = (to h).1.1.1.1.0 }, (a₁, (a₂, (a₃, (a₄, tt)))))))))). ‵ (lasts_of (ν₁ ∷ [], (ν₂ ∷ [], (ν₃ ∷ [], (ν₄ ∷ [], (κ₂, tt))))) callee.params (yes, (yes, (yes, (yes, (yes, (yes, (yes, (yes, (yes, tt))))))))) ((hd h), (record { ref_ptr = (b, at₁); ghost_name = δ₁; now = (to h).1.0 }, (record { ref_ptr = (b, at₂); ghost_name = δ₂; now = (to h).1.1.0 }, (record { ref_ptr = (b, at₃); ghost_name = δ₃; now = (to h).1.1.1.0 }, (record { ref_ptr = (b, at₄); ghost_name = δ₄; now = (to h).1.1.1.1.0 }, (a₁, (a₂, (a₃, (a₄, tt))))))))) ws) ⊛ raw (fact 𝓤 ((r ≡ spec (hd h) (to h).1.0 (to h).1.1.0 (to h).1.1.1.0 (to h).1.1.1.1.0 a₁ a₂.now a₃ a₄) × (ws.1.0 ≡ set₁ (hd h) (to h).1.0 (to h).1.1.0 (to h).1.1.1.0 (to h).1.1.1.1.0 a₁ a₂.now a₃ a₄) × (ws.1.1.0 ≡ set₂ (hd h) (to h).1.0 (to h).1.1.0 (to h).1.1.1.0 (to h).1.1.1.1.0 a₁ a₂.now a₃ a₄) × (ws.1.1.1.0 ≡ set₃ (hd h) (to h).1.0 (to h).1.1.0 (to h).1.1.1.0 (to h).1.1.1.1.0 a₁ a₂.now a₃ a₄) × (ws.1.1.1.1.0 ≡ set₄ (hd h) (to h).1.0 (to h).1.1.0 (to h).1.1.1.0 (to h).1.1.1.1.0 a₁ a₂.now a₃ a₄))))) (id⊢ 𝓤 _) $ pick ! (λ ws. split ! $ move ! (1 ∷ []) $ heard ! ((r ≡ spec (hd h) (to h).1.0 (to h).1.1.0 (to h).1.1.1.0 (to h).1.1.1.1.0 a₁ a₂.now a₃ a₄) × (ws.1.0 ≡ set₁ (hd h) (to h).1.0 (to h).1.1.0 (to h).1.1.1.0 (to h).1.1.1.1.0 a₁ a₂.now a₃ a₄) × (ws.1.1.0 ≡ set₂ (hd h) (to h).1.0 (to h).1.1.0 (to h).1.1.1.0 (to h).1.1.1.1.0 a₁ a₂.now a₃ a₄) × (ws.1.1.1.0 ≡ set₃ (hd h) (to h).1.0 (to h).1.1.0 (to h).1.1.1.0 (to h).1.1.1.1.0 a₁ a₂.now a₃ a₄) × (ws.1.1.1.1.0 ≡ set₄ (hd h) (to h).1.0 (to h).1.1.0 (to h).1.1.1.0 (to h).1.1.1.1.0 a₁ a₂.now a₃ a₄)) (λ e. fsplit ! $ drop ! $ fsplit ! $ move ! (1 ∷ []) $ fsplit ! $ move ! (1 ∷ []) $ fsplit ! $ move ! (1 ∷ []) $ fsplit ! $ move ! (1 ∷ []) $ drop ! $ move ! (4 ∷ []) $ split ! $ split ! $ move ! (1 ∷ []) $ split ! $ move ! (1 ∷ []) $ split ! $ move ! (1 ∷ []) $ split ! $ move ! (1 ∷ []) $ split ! $ move ! (1 ∷ []) $ drop ! $ move ! (5 ∷ []) $ peeks ! O.row (Is O.row) (shows 𝓛 O.row) r (u ∷ []) (λ is.
           land ! (from ! (stop !)) (init ! 29 refl (typed_out r u is)) $ rewrite ! 29 (λ (u' : Val). ‵ (fat full_share τO b₇ 0 u')) (ap only (O.tells r _ is)) refl $
           assigns ! (of_opd ! (load ! (from ! (fld ! refl (stop !))) (look_in ! 29 (sub ! 1 refl (whole !))))) (from ! (hop ! (look ! 41 refl) (fld ! refl (stop !)))) (store_raw ! 16 refl ((LL.lawful S₀.T S₀.L 𝓛).typed (O.st r) _ (O.st_is r _ is)).0) $
           assigns ! (of_opd ! (load ! (from ! (fld ! refl (stop !))) (look_in ! 29 (sub ! 0 refl (whole !))))) (from ! (stop !)) (init ! 43 refl (Ans.typed (O.ans r) (O.ans_is r _ is))) $
-          drop ! $ move ! (14 ∷ []) $ drop ! $ owned ! (state_row S₀) (Is (state_row S₀)) (LL.makes S₀.T S₀.plain 𝓛) (O.st r) _ (O.st_is r _ is) $ move ! (15 ∷ 0 ∷ []) $ use2 𝓛 (‵ (part_at (memberRow (state_member S₀)) full_share (S₀.T.to (O.st r)) b at₀)) (shut (O.st r) (mach (O.st r) ∷ [])) $
-          move ! (5 ∷ []) $ lft_end ! tt $ move ! (0 ∷ 14 ∷ 9 ∷ []) $ use3 𝓛 (later (‵ (part_at (memberRow m₁) full_share ws.1.0 b at₁))) (ref_back 𝓛 (memberRow m₁) (ν₁ ∷ []) δ₁ ws.1.0 b at₁) $ await ! tt $
-          move ! (5 ∷ []) $ lft_end ! tt $ move ! (0 ∷ 12 ∷ 8 ∷ []) $ use3 𝓛 (later (‵ (part_at (memberRow m₂) full_share ws.1.1.0 b at₂))) (ref_back 𝓛 (memberRow m₂) (ν₂ ∷ []) δ₂ ws.1.1.0 b at₂) $ await ! tt $
-          move ! (5 ∷ []) $ lft_end ! tt $ move ! (0 ∷ 10 ∷ 7 ∷ []) $ use3 𝓛 (later (‵ (part_at (memberRow m₃) full_share ws.1.1.1.0 b at₃))) (ref_back 𝓛 (memberRow m₃) (ν₃ ∷ []) δ₃ ws.1.1.1.0 b at₃) $ await ! tt $
-          move ! (5 ∷ []) $ lft_end ! tt $ move ! (0 ∷ 8 ∷ 6 ∷ []) $ use3 𝓛 (later (‵ (part_at (memberRow m₄) full_share ws.1.1.1.1.0 b at₄))) (ref_back 𝓛 (memberRow m₄) (ν₄ ∷ []) δ₄ ws.1.1.1.1.0 b at₄) $ await ! tt $
+          drop ! $ move ! (14 ∷ []) $ drop ! $ owned ! (state_row S₀) (Is (state_row S₀)) (LL.makes S₀.T S₀.plain 𝓛) (O.st r) _ (O.st_is r _ is) $ move ! (15 ∷ 0 ∷ []) $ use2 𝓛 (‵ (part_at (member_row (state_member S₀)) full_share (S₀.T.to (O.st r)) b at₀)) (shut (O.st r) (mach (O.st r) ∷ [])) $
+          move ! (5 ∷ []) $ lft_end ! tt $ move ! (0 ∷ 14 ∷ 9 ∷ []) $ use3 𝓛 (later (‵ (part_at (member_row m₁) full_share ws.1.0 b at₁))) (ref_back 𝓛 (member_row m₁) (ν₁ ∷ []) δ₁ ws.1.0 b at₁) $ await ! tt $
+          move ! (5 ∷ []) $ lft_end ! tt $ move ! (0 ∷ 12 ∷ 8 ∷ []) $ use3 𝓛 (later (‵ (part_at (member_row m₂) full_share ws.1.1.0 b at₂))) (ref_back 𝓛 (member_row m₂) (ν₂ ∷ []) δ₂ ws.1.1.0 b at₂) $ await ! tt $
+          move ! (5 ∷ []) $ lft_end ! tt $ move ! (0 ∷ 10 ∷ 7 ∷ []) $ use3 𝓛 (later (‵ (part_at (member_row m₃) full_share ws.1.1.1.0 b at₃))) (ref_back 𝓛 (member_row m₃) (ν₃ ∷ []) δ₃ ws.1.1.1.0 b at₃) $ await ! tt $
+          move ! (5 ∷ []) $ lft_end ! tt $ move ! (0 ∷ 8 ∷ 6 ∷ []) $ use3 𝓛 (later (‵ (part_at (member_row m₄) full_share ws.1.1.1.1.0 b at₄))) (ref_back 𝓛 (member_row m₄) (ν₄ ∷ []) δ₄ ws.1.1.1.1.0 b at₄) $ await ! tt $
           nothing ! $ move ! (1 ∷ 0 ∷ []) $ fjoin ! $ move ! (1 ∷ 0 ∷ []) $ fjoin ! $ move ! (1 ∷ 0 ∷ []) $ fjoin ! $ move ! (1 ∷ 0 ∷ []) $ fjoin ! $ move ! (1 ∷ 0 ∷ []) $ fjoin ! $ move ! (0 ∷ 3 ∷ []) $ use2 𝓛 (‵ (part_at Row full_share (next h a₁ a₂.now a₃ a₄) b o)) (together (S₀.T.to (O.st r), (ws.1.0, (ws.1.1.0, (ws.1.1.1.0, (ws.1.1.1.1.0, tt))))) ((λ i. (S₀.T.to (O.st (e.0 i)), (e.1 i, (e.2 i, (e.3 i, (e.4 i, tt)))))) ∙ next_is h a₁ a₂.now a₃ a₄)) $
           move ! (0 ∷ 3 ∷ 4 ∷ 5 ∷ []) $ close_ref ! tt (mem Row) (next h a₁ a₂.now a₃ a₄) {b = b} {o = o} $ returns ! (look ! 27 refl) $ forget ! 27 refl $ forget ! 25 refl $ forget ! 23 refl $ forget ! 21 refl $ forget ! 19 refl $ forget ! 17 refl $ forget ! 15 refl $ forget ! 13 refl $ forget ! 11 refl $ forget ! 9 refl $ forget ! 7 refl $ forget ! 5 refl $
           move ! (27 ∷ 28 ∷ []) $ free1 ! $ move ! (25 ∷ 26 ∷ []) $ free1 ! $ move ! (23 ∷ 24 ∷ []) $ free1 ! $ move ! (21 ∷ 22 ∷ []) $ free1 ! $ move ! (19 ∷ 20 ∷ []) $ free1 ! $ move ! (17 ∷ 18 ∷ []) $ free1 ! $ move ! (15 ∷ 16 ∷ []) $ free1 ! $ move ! (13 ∷ 14 ∷ []) $ free1 ! $ move ! (11 ∷ 12 ∷ []) $ free1 ! $ move ! (9 ∷ 10 ∷ []) $ free1 ! $ move ! (7 ∷ 8 ∷ []) $ free1 ! $ move ! (5 ∷ 6 ∷ []) $ free1 ! $ free0 ! $ keep ! (0 ∷ 1 ∷ 2 ∷ 3 ∷ 4 ∷ []) $ by ! (ends r (O.ans_is r _ is) (ap O.ans e.0 ∙ ans_is h a₁ a₂.now a₃ a₄)))))))))))))))))))))))))))))

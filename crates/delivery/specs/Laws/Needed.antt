@@ -12,9 +12,9 @@ use Rattle.outgoing.specs.Loss.{acked_count_of, loss_marked_of, loss_counted_of}
 use Rattle.outgoing.specs.Tracker.{no_packet}
 use Rattle.outgoing.specs.Transmit.{transmit_check, sent_of, transmit_of}
 use Rattle.outgoing.specs.Ack.{ack_check, marked_of, ack_of, sacked_from, offsets_from, heard_of, newly_acked_of, all_acknowledged_of, from_unacked}
-use Rattle.sent.specs.State.{tracker_of, state_sound_of, transmit_answer, ack_state_of, ack_answer, timeout_answer, fresh_of as freshSender}
+use Rattle.sent.specs.State.{tracker_of, state_sound_of, transmit_answer, ack_state_of, ack_answer, timeout_answer, fresh_of as fresh_sender}
 use Rattle.sent.specs.declared.state.SentPackets.{SentPackets}
-use Rattle.recv.specs.State.{sound_of as receiverSound, fresh_of as freshReceiver}
+use Rattle.recv.specs.State.{sound_of as receiver_sound, fresh_of as fresh_receiver}
 use Rattle.recv.specs.Table.{there_of, sack_of}
 use Rattle.recv.specs.Receiver.{rule_of, stored_of, read_of}
 use Rattle.recv.specs.Calls.{receiver_of, answer_of}
@@ -26,7 +26,7 @@ use Rattle.delivery.specs.Laws.Kept.{Along, along_none, along_more, along_quiet,
 
 -- Two fresh ends that share the initial number 0, and a buffer of two bytes.
 abbrev pub start : Start
-start = record { sender = freshSender (seq 0) settings; receiver = freshReceiver (seq 0) 2; buffer = 0 ∷ 0 ∷ [] }
+start = record { sender = fresh_sender (seq 0) settings; receiver = fresh_receiver (seq 0) 2; buffer = 0 ∷ 0 ∷ [] }
 
 abbrev pub one : Transmit
 one = data_of 1 1 (65 ∷ []) 0
@@ -73,7 +73,7 @@ all_but_fresh b run k =
 
 -- A sender that holds a packet as acknowledged which nobody sent.
 abbrev pub old_sender : Start
-old_sender = record { sender = grown_sender; receiver = freshReceiver (seq 0) 2; buffer = 0 ∷ 0 ∷ [] }
+old_sender = record { sender = grown_sender; receiver = fresh_receiver (seq 0) 2; buffer = 0 ∷ 0 ∷ [] }
 
 pub fresh_sender_needed : FreshReceiver (seq 0) old_sender.receiver × AllButFresh old_sender [] × (Delivered old_sender [] → ⊥)
 unfolding sender_after receiver_after
@@ -82,7 +82,7 @@ fresh_sender_needed =
 
 -- A receiver that has a payload in order which nobody sent.
 abbrev pub old_receiver : Start
-old_receiver = record { sender = freshSender (seq 0) settings; receiver = grown_receiver; buffer = 0 ∷ 0 ∷ [] }
+old_receiver = record { sender = fresh_sender (seq 0) settings; receiver = grown_receiver; buffer = 0 ∷ 0 ∷ [] }
 
 pub fresh_receiver_needed : FreshSender (seq 0) old_receiver.sender × AllButFresh old_receiver [] × (Delivered old_receiver [] → ⊥)
 unfolding receiver_after payloads sound_of le
@@ -91,7 +91,7 @@ fresh_receiver_needed =
 
 -- Two fresh ends whose initial numbers differ: the receiver takes the second packet for the first.
 abbrev pub apart : Start
-apart = record { sender = freshSender (seq 0) settings; receiver = freshReceiver (seq 1) 2; buffer = 0 ∷ 0 ∷ [] }
+apart = record { sender = fresh_sender (seq 0) settings; receiver = fresh_receiver (seq 1) 2; buffer = 0 ∷ 0 ∷ [] }
 
 abbrev pub apart-sent : List Event
 apart-sent = at_sender (sender_after apart (at_sender apart.sender (transmit one) ∷ [])) (transmit two) ∷ at_sender apart.sender (transmit one) ∷ []
@@ -114,7 +114,7 @@ apart_kept =
     (carried two) (happened_at _ _ 0 refl)
 
 pub shared_number_needed : FreshSender (seq 0) apart.sender × FreshReceiver (seq 1) apart.receiver × AllButFresh apart apart-run × (Delivered apart apart-run → ⊥)
-unfolding payloads receiver_after receiverSound there_of sack_of rule_of stored_of answer_of sender_after acked_count_of transmit_check sent_of transmit_of transmit_answer state_sound_of tracker_sound_of packets_sound_of in_flight_of sound_of le
+unfolding payloads receiver_after receiver_sound there_of sack_of rule_of stored_of answer_of sender_after acked_count_of transmit_check sent_of transmit_of transmit_answer state_sound_of tracker_sound_of packets_sound_of in_flight_of sound_of le
 shared_number_needed = (
   record { settings = settings; made = refl },
   record { size = 2; made = refl },
@@ -131,7 +131,7 @@ invented = at_receiver start.receiver start.buffer (write (carried one)) ∷ []
 pub channel_needed :
     Fresh start × SamePayload invented × OnlyAccepted invented × BuiltEarlier invented × SenderGoesOn start invented × ReceiverGoesOn start invented × BufferGoesOn start invented
     × (Delivered start invented → ⊥)
-unfolding payloads receiver_after receiverSound there_of sack_of rule_of stored_of answer_of
+unfolding payloads receiver_after receiver_sound there_of sack_of rule_of stored_of answer_of
 channel_needed =
     let e = at_receiver start.receiver start.buffer (write (carried one)) in (
       fresh,
@@ -156,7 +156,7 @@ exchanged = at_receiver start.receiver start.buffer (write (carried other)) ∷ 
 pub retransmission_needed :
     Fresh start × Channel exchanged × OnlyAccepted exchanged × BuiltEarlier exchanged × SenderGoesOn start exchanged × ReceiverGoesOn start exchanged × BufferGoesOn start exchanged
     × (Delivered start exchanged → ⊥)
-unfolding payloads receiver_after receiverSound there_of sack_of rule_of stored_of answer_of sender_after acked_count_of transmit_check sent_of transmit_of transmit_answer state_sound_of tracker_sound_of packets_sound_of in_flight_of sound_of le
+unfolding payloads receiver_after receiver_sound there_of sack_of rule_of stored_of answer_of sender_after acked_count_of transmit_check sent_of transmit_of transmit_answer state_sound_of tracker_sound_of packets_sound_of in_flight_of sound_of le
 retransmission_needed =
     let went = goes_out (carried other) in
     let came = at_receiver start.receiver start.buffer (write (carried other)) in
@@ -188,7 +188,7 @@ unasked = at_receiver start.receiver start.buffer (write (carried one)) ∷ goes
 pub only_accepted_needed :
     Fresh start × Channel unasked × SamePayload unasked × BuiltEarlier unasked × SenderGoesOn start unasked × ReceiverGoesOn start unasked × BufferGoesOn start unasked
     × (Delivered start unasked → ⊥)
-unfolding payloads receiver_after receiverSound there_of sack_of rule_of stored_of answer_of
+unfolding payloads receiver_after receiver_sound there_of sack_of rule_of stored_of answer_of
 only_accepted_needed =
     let went = goes_out (carried one) in
     let came = at_receiver start.receiver start.buffer (write (carried one)) in (
@@ -259,7 +259,7 @@ other-receiver = at_receiver grown_receiver start.buffer (read []) ∷ []
 pub receiver_goes_on_needed :
     Fresh start × Channel other-receiver × SamePayload other-receiver × OnlyAccepted other-receiver × BuiltEarlier other-receiver × SenderGoesOn start other-receiver × BufferGoesOn start other-receiver
     × (Delivered start other-receiver → ⊥)
-unfolding payloads read_of receiver_after receiverSound there_of sack_of rule_of stored_of answer_of
+unfolding payloads read_of receiver_after receiver_sound there_of sack_of rule_of stored_of answer_of
 receiver_goes_on_needed =
     let e = at_receiver grown_receiver start.buffer (read []) in (
       fresh,
@@ -290,7 +290,7 @@ one_arrived_kept =
 pub buffer_goes_on_needed :
     Fresh start × Channel other_buffer × SamePayload other_buffer × OnlyAccepted other_buffer × BuiltEarlier other_buffer × SenderGoesOn start other_buffer × ReceiverGoesOn start other_buffer
     × (Delivered start other_buffer → ⊥)
-unfolding payloads read_of receiver_after receiverSound there_of sack_of rule_of stored_of answer_of sender_after acked_count_of transmit_check sent_of transmit_of transmit_answer state_sound_of tracker_sound_of packets_sound_of in_flight_of sound_of le
+unfolding payloads read_of receiver_after receiver_sound there_of sack_of rule_of stored_of answer_of sender_after acked_count_of transmit_check sent_of transmit_of transmit_answer state_sound_of tracker_sound_of packets_sound_of in_flight_of sound_of le
 buffer_goes_on_needed =
     let e = at_receiver (receiver_after start one-arrived).state (66 ∷ 0 ∷ []) (read []) in
     let k = one_arrived_kept in (

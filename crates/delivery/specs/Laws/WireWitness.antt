@@ -19,7 +19,7 @@ use Rattle.outgoing.specs.Loss.{acked_count_of, loss_marked_of, loss_counted_of}
 use Rattle.outgoing.specs.Transmit.{transmit_check, sent_of, transmit_of}
 use Rattle.outgoing.specs.Ack.{ack_check, marked_of, ack_of, sacked_from, offsets_from, heard_of, newly_acked_of, all_acknowledged_of, from_unacked}
 use Rattle.sent.specs.State.{tracker_of, state_sound_of, transmit_answer, ack_state_of, ack_answer}
-use Rattle.recv.specs.State.{sound_of as receiverSound}
+use Rattle.recv.specs.State.{sound_of as receiver_sound}
 use Rattle.recv.specs.Table.{there_of, sack_of}
 use Rattle.recv.specs.Receiver.{rule_of, stored_of, read_of}
 use Rattle.recv.specs.Calls.{answer_of}
@@ -117,7 +117,7 @@ arrived_allowed =
     (along_more (Allowed start) _ sent ((refl, refl), happened_at _ sent 0 refl) sent_allowed)
 
 acknowledged_allowed : Along (Allowed start) acknowledged
-unfolding plain decode_of fields_of bytes_of chain_from receiver_after receiverSound there_of sack_of rule_of stored_of answer_of read_of
+unfolding plain decode_of fields_of bytes_of chain_from receiver_after receiver_sound there_of sack_of rule_of stored_of answer_of read_of
 acknowledged_allowed =
     along_more (Allowed start) _ (receiver_out early-bytes ∷ builds_in arrived (replicate 4 9)) (refl, happened_at _ (receiver_out early-bytes ∷ builds_in arrived (replicate 4 9)) 0 refl)
     (along_more (Allowed start) (receiver_out early-bytes) (builds_in arrived (replicate 4 9))
@@ -143,7 +143,7 @@ mended_allowed =
     acknowledged_allowed))
 
 run_allowed : Along (Allowed start) run
-unfolding plain decode_of fields_of bytes_of chain_from receiver_after receiverSound there_of sack_of rule_of stored_of answer_of read_of
+unfolding plain decode_of fields_of bytes_of chain_from receiver_after receiver_sound there_of sack_of rule_of stored_of answer_of read_of
 run_allowed =
     along_more (Allowed start) _ (hears (receiver_out last-bytes ∷ builds_in mended []) last-bytes 1100000) (refl, refl)
     (along_more (Allowed start) _ (receiver_out last-bytes ∷ builds_in mended []) (refl, happened_at _ (receiver_out last-bytes ∷ builds_in mended []) 0 refl)
@@ -165,7 +165,7 @@ wire_run_kept = wire_kept start run fresh run_allowed
 
 -- Every byte is read, in order, and both packets are held as acknowledged.
 pub wire_all_read : (receiver_after start (plain run)).read ≡ 65 ∷ 66 ∷ 67 ∷ []
-unfolding plain decode_of fields_of bytes_of chain_from receiver_after receiverSound there_of sack_of rule_of stored_of answer_of read_of
+unfolding plain decode_of fields_of bytes_of chain_from receiver_after receiver_sound there_of sack_of rule_of stored_of answer_of read_of
 wire_all_read = refl
 
 pub wire_marks : marks_of (tracker_of (sender_after start (plain run))) ≡ true ∷ true ∷ []

@@ -11,7 +11,7 @@ use Rattle.outgoing.specs.Loss.{acked_count_of, loss_marked_of, loss_counted_of}
 use Rattle.outgoing.specs.Transmit.{transmit_check, sent_of, transmit_of}
 use Rattle.outgoing.specs.Ack.{ack_check, marked_of, ack_of, sacked_from, offsets_from, heard_of, newly_acked_of, all_acknowledged_of, from_unacked}
 use Rattle.sent.specs.State.{tracker_of, state_sound_of, transmit_answer, ack_state_of, ack_answer, timeout_answer}
-use Rattle.recv.specs.State.{sound_of as receiverSound}
+use Rattle.recv.specs.State.{sound_of as receiver_sound}
 use Rattle.recv.specs.Table.{there_of, sack_of}
 use Rattle.recv.specs.Receiver.{rule_of, stored_of, read_of}
 use Rattle.recv.specs.Calls.{answer_of}
@@ -64,7 +64,7 @@ arrived_kept =
     (carried fifth) (happened_at _ _ 5 refl)
 
 heard_kept : Keeps start heard
-unfolding receiver_after receiverSound there_of sack_of rule_of stored_of answer_of read_of
+unfolding receiver_after receiver_sound there_of sack_of rule_of stored_of answer_of read_of
 heard_kept =
     keeps_hear start _ (keeps_build start arrived arrived_kept (replicate 4 9)) early 100000 200000
     (record {
@@ -105,7 +105,7 @@ mended_kept : Keeps start mended
 mended_kept = keeps_write start _ again_kept (carried again) (happened_at _ _ 0 refl)
 
 run_kept : Keeps start run
-unfolding receiver_after receiverSound there_of sack_of rule_of stored_of answer_of read_of
+unfolding receiver_after receiver_sound there_of sack_of rule_of stored_of answer_of read_of
 run_kept =
     keeps_hear start _ (keeps_build start _ (keeps_read start _ (keeps_read start mended mended_kept (replicate 3 9)) (replicate 9 9)) []) last 100000 3100000
     (record {
@@ -138,9 +138,9 @@ marks-last = refl
 
 -- Before the second packet came again one byte was read and one was ready; then every byte is read, in order.
 pub read_early : (receiver_after start timed_out).read ≡ 65 ∷ []
-unfolding receiver_after receiverSound there_of sack_of rule_of stored_of answer_of read_of
+unfolding receiver_after receiver_sound there_of sack_of rule_of stored_of answer_of read_of
 read_early = refl
 
 pub all_read : (receiver_after start run).read ≡ 65 ∷ 66 ∷ 67 ∷ 68 ∷ 69 ∷ 70 ∷ 71 ∷ 72 ∷ []
-unfolding receiver_after receiverSound there_of sack_of rule_of stored_of answer_of read_of
+unfolding receiver_after receiver_sound there_of sack_of rule_of stored_of answer_of read_of
 all_read = refl

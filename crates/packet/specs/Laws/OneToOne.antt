@@ -4,7 +4,7 @@ use Rattle.std.proofs.Common.{ap}
 use Rattle.common.specs.Answer.{Answer, done, refused}
 use Rattle.common.specs.Laws.OneToOne.{by_inverse}
 use Rattle.packet.specs.Chain.{Next, ends, onward}
-use Rattle.packet.specs.Answers.{typeRead, checked, stepped, reasonNumber, decoded, unwrittenNumber, encoded}
+use Rattle.packet.specs.Answers.{type_read, checked, stepped, reason_number, decoded, unwritten_number, encoded}
 use Rattle.packet.specs.declared.kind.PacketType.{PacketType}
 use Rattle.packet.specs.declared.kind.TypeRead.{TypeRead}
 use Rattle.packet.specs.declared.kind.TypeRead.TheVariants.{Known, UnknownType as TypeUnknown}
@@ -61,14 +61,14 @@ unwritten (suc (suc (suc (suc (suc (suc (suc zero))))))) = UnwrittenData
 unwritten (suc (suc (suc (suc (suc (suc (suc (suc zero)))))))) = UnwrittenSack SackLong
 unwritten (suc (suc (suc (suc (suc (suc (suc (suc (suc n))))))))) = NoRoom
 
-pub type_read_one_to_one : (a b : TypeRead) → typeRead a ≡ typeRead b → a ≡ b
-type_read_one_to_one = by_inverse typeRead back undone
+pub type_read_one_to_one : (a b : TypeRead) → type_read a ≡ type_read b → a ≡ b
+type_read_one_to_one = by_inverse type_read back undone
   where
     back : Answer PacketType → TypeRead
     back (done t) = Known t
     back (refused n) = TypeUnknown
 
-    undone : (a : TypeRead) → back (typeRead a) ≡ a
+    undone : (a : TypeRead) → back (type_read a) ≡ a
     undone (Known t) = refl
     undone TypeUnknown = refl
 
@@ -105,7 +105,7 @@ decoded_one_to_one = by_inverse decoded back undone
     back (done p) = Accepted p
     back (refused n) = Undecoded (reason n)
 
-    undone_reason : (r : Reason) → reason (reasonNumber r) ≡ r
+    undone_reason : (r : Reason) → reason (reason_number r) ≡ r
     undone_reason (BadHeader TooShort) = refl
     undone_reason (BadHeader UnknownType) = refl
     undone_reason (BadHeader UnknownVersion) = refl
@@ -126,7 +126,7 @@ encoded_one_to_one = by_inverse encoded back undone
     back (done n) = Written n
     back (refused n) = Refused (unwritten n)
 
-    undone_reason : (r : Unwritten) → unwritten (unwrittenNumber r) ≡ r
+    undone_reason : (r : Unwritten) → unwritten (unwritten_number r) ≡ r
     undone_reason (UnwrittenSack SackShort) = refl
     undone_reason (UnwrittenSack SackNotWords) = refl
     undone_reason (UnwrittenSack SackLong) = refl

@@ -12,7 +12,7 @@ use Rattle.std.proofs.Math.ListN.{length, take, get_or}
 use Rattle.std.proofs.Math.Seq.{get_or-drop, length-take-le}
 use Rattle.seq.specs.Seq.{offset_of}
 use Rattle.seq.specs.declared.SeqNum.{SeqNum}
-use Rattle.recv.specs.Table.{waits, tabled, run_of as readyRun}
+use Rattle.recv.specs.Table.{waits, tabled, run_of as ready_run}
 use Rattle.recv.specs.State.{table_of, sound_of, fresh_of}
 use Rattle.recv.specs.Receiver.{Receiver, joined, lengths_of, put_at, stored_of, read_of, changed}
 use Rattle.recv.specs.Calls.{receiver_of, over, state_of, room_of, ready_for, answer_of, after_write, taken_room_of, taken_out_of}
@@ -82,11 +82,11 @@ pub record Kept (r : Receiver) (log : List Entry) (sofar : List ℕ) : Type 0 wh
 -- moving the next payloads to ready keeps it
 module _ (f : ℕ → Option (List ℕ)) (sofar : List ℕ) where
   moved_in_order : (w : List (Option (List ℕ))) (c : ℕ) (ready : List ℕ) → sofar ++ ready ≡ joined (tabled c f) → ((i : ℕ) → get_or w i none ≡ f (c + i))
-      → sofar ++ (ready ++ joined (take (readyRun (lengths_of w)) w)) ≡ joined (tabled (c + readyRun (lengths_of w)) f)
+      → sofar ++ (ready ++ joined (take (ready_run (lengths_of w)) w)) ≡ joined (tabled (c + ready_run (lengths_of w)) f)
   moved_in_order [] c ready e h = ap (λ (l : List ℕ). sofar ++ l) (append-nil ready) ∙ e ∙ ap (λ (n : ℕ). joined (tabled n f)) (sym (add-zero c))
   moved_in_order (none ∷ w) c ready e h = ap (λ (l : List ℕ). sofar ++ l) (append-nil ready) ∙ e ∙ ap (λ (n : ℕ). joined (tabled n f)) (sym (add-zero c))
   moved_in_order (some p ∷ w) c ready e h =
-      let k = readyRun (lengths_of w) in
+      let k = ready_run (lengths_of w) in
       let here : f c ≡ some p = ap f (sym (add-zero c)) ∙ sym (h 0) in
       let next : sofar ++ (ready ++ p) ≡ joined (tabled (c + 1) f) =
       sym (append_assoc sofar ready p)
@@ -103,7 +103,7 @@ module _ (f : ℕ → Option (List ℕ)) (sofar : List ℕ) where
       shift : (i : ℕ) → c + suc i ≡ c + 1 + i
       shift i = omega arith
 
-run-waits : (w : List (Option (List ℕ))) (j : ℕ) → j < readyRun (lengths_of w) → get_or w j none ≡ none → ⊥
+run-waits : (w : List (Option (List ℕ))) (j : ℕ) → j < ready_run (lengths_of w) → get_or w j none ≡ none → ⊥
 run-waits [] j h e = not-suc-le-zero h
 run-waits (none ∷ w) j h e = not-suc-le-zero h
 run-waits (some p ∷ w) zero h e = let z : ◌≡◌ {A = ℕ} 0 1 = cc in omega arith
@@ -147,7 +147,7 @@ module _ (r : Receiver) (log : List Entry) (sofar : List ℕ) (kept : Kept r log
   pub kept_stored : Kept (stored_of r o payload) (record { offset = o; payload = payload } ∷ log) sofar
   unfolding stored_of f entry w place
   kept_stored =
-      let k = readyRun (lengths_of w) in
+      let k = ready_run (lengths_of w) in
       record {
         in_order = moved_in_order f sofar w r.count r.ready before here;
         all_there = λ j l e.

@@ -15,7 +15,7 @@ use Rattle.sent_lent.specs.Laws.LentState.{pairs_back, times_back, sizes_back, m
 use Rattle.outgoing.specs.Sound.{timeout_of as timed_out_of}
 use Rattle.sent.specs.State.{answered_of, fresh_of, new_answer, state_sound_of, timeout_answer, tracker_of, transmit_answer}
 use Rattle.outgoing.specs.Tracker.{Tracker as Sent, clocked_of, is_kept, no_packet, offset_in, packet_at, with_packet_at}
-use Rattle.outgoing.specs.Transmit.{first_sent, recorded_of, sent_of, transmit_check, transmit_of as sentBy, with_resent}
+use Rattle.outgoing.specs.Transmit.{first_sent, recorded_of, sent_of, transmit_check, transmit_of as sent_by, with_resent}
 use Rattle.ribsaddle.specs.Answer.{number_of}
 use Rattle.ribsaddle.specs.Tracker.{Sized, Tracking, created_as, heading_as, heading_of, parts_of, started_as, started_with, timeout_of, tracking_of, transmit_as, transmit_of, whole_of}
 use Rattle.ribsaddle.specs.declared.tracker.Heading.{Heading}
@@ -153,7 +153,7 @@ sent_delays t o p = by_test (leb o t.sent) (is_kept t o)
     by_test false k = refl
 
 transmit_delays : (s : SentPackets) (number : SeqNum) (type : PacketType) (tag len clock : ℕ) → (transmit_answer s number type tag len clock).1.delays ≡ s.delays
-unfolding transmit_answer sentBy
+unfolding transmit_answer sent_by
 transmit_delays s number type tag len clock =
     by_test (state_sound_of s) (transmit_check s.numbers s.count (length (tracker_of s).packets) (offset_in (tracker_of s) number) len clock)
     (clocked_of (sent_of (tracker_of s) (offset_in (tracker_of s) number) (first_sent type tag len clock)) clock) (sent_delays (tracker_of s) (offset_in (tracker_of s) number) (first_sent type tag len clock))

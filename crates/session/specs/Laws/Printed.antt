@@ -23,7 +23,7 @@ use Rattle.session.specs.declared.line.Line.{Line}
 use Rattle.session.specs.declared.replay.Replay.{Replay}
 use Rattle.session.specs.Format.{◌into◌, event_of, events_of, is_known, all_known, sack_size, sack_total, Session, session_of}
 use Rattle.session.specs.Lines.{seq, number_of, tracker_after, event_answer, line_text, line_of, lines_from, fresh_of, lines_of, lines_text, text_of_answer, printed}
-use Rattle.session.specs.Replay.{value_or, began_of, start_of as beginOf, start_answer, event_at, event_state, shown_of, behind_of, taken_of, step_answer, text_then, steps_text, start_text}
+use Rattle.session.specs.Replay.{value_or, began_of, start_of as begin_of, start_answer, event_at, event_state, shown_of, behind_of, taken_of, step_answer, text_then, steps_text, start_text}
 use Rattle.session.specs.Laws.Event.{events_peel, events_none, events_all, events_length}
 use Rattle.session.specs.Laws.Session.{done_one, Whole, count_in, events_in, placed, whole_session, session_whole}
 use Rattle.session.specs.Laws.Step.{event_there, step_ended, step_event}
@@ -222,12 +222,12 @@ module _ (file : List ℕ) (lines : Replay → List ℕ) where
   unfolding start_answer printed lines_of
   start-printed p = by_answer (session_of file) refl p
     where
-      by_answer : (a : Answer Session) → session_of file ≡ a → Prints (beginOf file a).1 → start_text lines (beginOf file a) ≡ text_of_answer (a into session_lines)
+      by_answer : (a : Answer Session) → session_of file ≡ a → Prints (begin_of file a).1 → start_text lines (begin_of file a) ≡ text_of_answer (a into session_lines)
       by_answer (refused n) q f = refl
       by_answer (done s) q f =
           let w = session_whole file s q in
           let same : placed file ≡ s = done_one (placed file) s (sym (whole_session file w) ∙ q) in
-          subst (λ (x : Session). Prints (began_of file x) → start_text lines (beginOf file (done x)) ≡ text_of_answer (session_lines x)) same (λ g. whole-printed w g) f
+          subst (λ (x : Session). Prints (began_of file x) → start_text lines (begin_of file (done x)) ≡ text_of_answer (session_lines x)) same (λ g. whole-printed w g) f
 
 -- What a caller prints who writes each line that a step tells, and the one line of a refused file, is all that the document prints. As many steps do as there are
 -- events; more print nothing more.

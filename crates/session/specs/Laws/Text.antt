@@ -6,7 +6,7 @@ use Rattle.common.specs.Answer.{done, refused}
 use Rattle.common.specs.Laws.Put.{put, put-put, set-two, length-put}
 use Rattle.session.specs.declared.line.Line.{Line}
 use Rattle.session.specs.Lines.{decimal, line_text}
-use Rattle.session.specs.Answers.{pairText, wroteOf}
+use Rattle.session.specs.Answers.{pair_text, wrote_of}
 
 -- `text` stands in the room from place `at` on, and `p` is the place behind it.
 pub record Placed (room : List ℕ) (at : ℕ) (text r : List ℕ) (p : ℕ) : Type 0 where
@@ -23,12 +23,12 @@ placed-next room at text r p t r' p' before fits q e =
 
 -- ---- a line
 
-pub pair_joined : (n m end : ℕ) → (decimal n ++ (32 ∷ [])) ++ (decimal m ++ (end ∷ [])) ≡ pairText n m end
-unfolding pairText
+pub pair_joined : (n m end : ℕ) → (decimal n ++ (32 ∷ [])) ++ (decimal m ++ (end ∷ [])) ≡ pair_text n m end
+unfolding pair_text
 pair_joined n m end = simp append_assoc
 
-pub line_joined : (l : Line) → (pairText l.index l.answer 32 ++ pairText l.in_flight l.maximum 32) ++ pairText l.timeout l.lost 10 ≡ line_text l
-unfolding line_text pairText
+pub line_joined : (l : Line) → (pair_text l.index l.answer 32 ++ pair_text l.in_flight l.maximum 32) ++ pair_text l.timeout l.lost 10 ≡ line_text l
+unfolding line_text pair_text
 line_joined l = simp append_assoc
 
 -- ---- the line of a refused file
@@ -47,13 +47,13 @@ bad_length room at = simp length-set
 
 -- ---- whether there is room
 
-pub wrote_no : (room : List ℕ) (at : ℕ) (text : List ℕ) → leb (at + 126) (length room) ≡ false → (refused 9, room) ≡ wroteOf room at text
-unfolding wroteOf
+pub wrote_no : (room : List ℕ) (at : ℕ) (text : List ℕ) → leb (at + 126) (length room) ≡ false → (refused 9, room) ≡ wrote_of room at text
+unfolding wrote_of
 wrote_no room at text e = sym (ap (λ (b : Bool). cond b (done (at + length text), put room at text) (refused 9, room)) e)
 
 pub wrote_yes : (room : List ℕ) (at : ℕ) (text r : List ℕ) (p : ℕ) → leb (at + 126) (length room) ≡ true → p ≡ at + length text → r ≡ put room at text
-    → (done p, r) ≡ wroteOf room at text
-unfolding wroteOf
+    → (done p, r) ≡ wrote_of room at text
+unfolding wrote_of
 wrote_yes room at text r p e q h =
     ap₂ (λ (n : ℕ) (l : List ℕ). (done n, l)) q h ∙ sym (ap (λ (b : Bool). cond b (done (at + length text), put room at text) (refused 9, room)) e)
 

@@ -4,7 +4,7 @@ use lib.ListN.{length}
 use Rattle.common.specs.Answer.{Answer}
 use Rattle.packet.specs.declared.header.Header.{Header}
 use Rattle.packet.specs.declared.kind.PacketType.{PacketType}
-use Rattle.packet.specs.Answers.{typeRead}
+use Rattle.packet.specs.Answers.{type_read}
 use Rattle.packet.specs.Encode.{encode_of, room_of}
 use Rattle.ribsaddle.specs.Answer.{number_of, value_or}
 use Rattle.ribsaddle.specs.Codec.{write_as, room_as, writing_of, writing_room_of}
@@ -34,7 +34,7 @@ returns : tie.Need-returns
 unfolding writing_of writing_room_of
 returns c =
     let a = c.before.before.before.before.before.before.args in
-    let e = sym (ap typeRead c.enum_told.given.1) ∙ c.before.before.of_number.ensures in (
+    let e = sym (ap type_read c.enum_told.given.1) ∙ c.before.before.of_number.ensures in (
       ap (λ (t : Answer PacketType). number_of (write_as t a.header a.sack.now a.payload.now (length a.room.now))) e,
       ap (λ (t : Answer PacketType). room_as t a.header a.sack.now a.payload.now a.room.now) e,
       ap (λ (t : Answer PacketType). value_or a.size.now (write_as t a.header a.sack.now a.payload.now (length a.room.now))) e,
@@ -47,7 +47,7 @@ returns-2 : tie.Need-returns-2
 unfolding writing_of writing_room_of
 returns-2 c =
     let a = c.before.before.before.before.before.before.before.before.before.before.before.before.before.before.args in
-    let e = sym (ap typeRead c.before.before.before.before.before.before.before.before.packet-type.given.1) ∙ c.before.before.before.before.before.before.before.before.before.before.of_number.ensures in
+    let e = sym (ap type_read c.before.before.before.before.before.before.before.before.packet-type.given.1) ∙ c.before.before.before.before.before.before.before.before.before.before.of_number.ensures in
     let from = c.before.before.before.before.before.before.header-from.ensures in
     let wrote = c.before.before.before.before.encode.ensures in
     let answer =

@@ -1,7 +1,7 @@
 -- `ribsaddle::told::tell_lost` meets its contract. By what is told.
 use mathlib.Core.Path.{◌∙◌, ap, sym}
 use Rattle.outgoing.specs.declared.answer.LostTold.{LostTold}
-use Rattle.outgoing.specs.Answers.{lostTold}
+use Rattle.outgoing.specs.Answers.{lost_told}
 use Rattle.ribsaddle.specs.Answer.{number_of, part_or}
 use Rattle.ribsaddle.specs.Tracker.{lost_number_of, lost_type_of, lost_tag_of}
 use borrow.Author.Rules.{rules}
@@ -33,20 +33,20 @@ returns : tie.Need-returns
 returns c =
     let a = c.before.before.before.before.before.before.args in
     let g = sym c.before.before.before.before.told.given.1 in (
-      ap (λ (t : LostTold). number_of (lostTold t)) g,
-      c.before.before.wide.ensures ∙ ap (λ (t : LostTold). part_or lost_number_of a.number.now (lostTold t)) g,
-      c.before.number.ensures ∙ ap (λ (t : LostTold). part_or lost_type_of a.packet-type.now (lostTold t)) g,
-      ap (λ (t : LostTold). part_or lost_tag_of a.tag.now (lostTold t)) g,
+      ap (λ (t : LostTold). number_of (lost_told t)) g,
+      c.before.before.wide.ensures ∙ ap (λ (t : LostTold). part_or lost_number_of a.number.now (lost_told t)) g,
+      c.before.number.ensures ∙ ap (λ (t : LostTold). part_or lost_type_of a.packet-type.now (lost_told t)) g,
+      ap (λ (t : LostTold). part_or lost_tag_of a.tag.now (lost_told t)) g,
     )
 
 returns-2 : tie.Need-returns-2
 returns-2 c =
     let a = c.before.before.before.before.args in
     let g = sym c.before.before.told2.given.1 in (
-      c.number2.ensures ∙ ap (λ (t : LostTold). number_of (lostTold t)) g,
-      ap (λ (t : LostTold). part_or lost_number_of a.number.now (lostTold t)) g,
-      ap (λ (t : LostTold). part_or lost_type_of a.packet-type.now (lostTold t)) g,
-      ap (λ (t : LostTold). part_or lost_tag_of a.tag.now (lostTold t)) g,
+      c.number2.ensures ∙ ap (λ (t : LostTold). number_of (lost_told t)) g,
+      ap (λ (t : LostTold). part_or lost_number_of a.number.now (lost_told t)) g,
+      ap (λ (t : LostTold). part_or lost_type_of a.packet-type.now (lost_told t)) g,
+      ap (λ (t : LostTold). part_or lost_tag_of a.tag.now (lost_told t)) g,
     )
 
 pub tell-lost-spec : {M : Type 1} → statement M
