@@ -67,6 +67,20 @@ def spelled(names, words):
 # names that were in snake case already, of steps inside one law, and would fall together with a definition that the law speaks of
 TAKEN = {"crates/recv/specs/Laws/Reading.antt": "ready_for", "crates/recv/specs/Laws/Runs.antt": "ready_for"}
 
+# names of files of specs/ that are called Answers.antt, as answers to goals are, and names by which a file imports another's
+SECOND = {
+    "answer-other": "answer_other", "answer-rule": "answer_rule", "answer-unsound": "answer_unsound", "badNumber": "bad_number",
+    "beginOf": "begin_of", "chainRead": "chain_read", "freshReceiver": "fresh_receiver", "freshSender": "fresh_sender",
+    "headerNumber": "header_number", "last-test": "last_test", "length-next": "length_next", "lostTold": "lost_told", "memberRow": "member_row",
+    "not-refused": "not_refused", "numberTold": "number_told", "other-answer": "other_answer", "pairText": "pair_text", "rangeTold": "range_told",
+    "readyRun": "ready_run", "reasonNumber": "reason_number", "receiverSound": "receiver_sound", "refusalNumber": "refusal_number",
+    "rule-ahead": "rule_ahead", "rule-limit": "rule_limit", "rule-long": "rule_long", "rule-stored": "rule_stored", "rule-there": "rule_there",
+    "sackNumber": "sack_number", "sentBy": "sent_by", "sentIn": "sent_in", "sentParts": "sent_parts", "sentWhole": "sent_whole",
+    "seqTold": "seq_told", "stepNumber": "step_number", "stored-length": "stored_length", "stored-rule": "stored_rule",
+    "stored-sound": "stored_sound", "truthTold": "truth_told", "typeRead": "type_read", "unwrittenNumber": "unwritten_number",
+    "written-room-is": "written_room_is", "wroteOf": "wrote_of",
+}
+
 
 def main():
     for place, n in TAKEN.items():
@@ -114,11 +128,21 @@ def main():
                 if new[n] in seen:
                     print("in use:", path.relative_to(ROOT), n, "->", new[n])
             path.write_text(text)
-    for path in sorted(ROOT.glob("*.md")) + sorted(ROOT.glob("docs/*.md")) + sorted(ROOT.glob("oracle/*.md")):
-        old = path.read_text()
-        text = re.sub(r"`[^`\n]+`", lambda m: turn(m.group(0)), old)
-        if text != old:
-            path.write_text(text)
+    def pages():
+        for path in sorted(ROOT.glob("*.md")) + sorted(ROOT.glob("docs/*.md")) + sorted(ROOT.glob("oracle/*.md")):
+            old = path.read_text()
+            text = re.sub(r"`[^`\n]+`", lambda m: turn(m.group(0)), old)
+            if text != old:
+                path.write_text(text)
+
+    pages()
+    new = SECOND
+    for path in sorted(CRATES.rglob("*")):
+        if path.suffix in (".antt", ".rt", ".edit") and "out" not in path.relative_to(CRATES).parts:
+            old = path.read_text()
+            if turn(old) != old:
+                path.write_text(turn(old))
+    pages()
 
 
 if __name__ == "__main__":
