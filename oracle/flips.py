@@ -3,7 +3,7 @@
 
     flips.py FOLDER [COUNT] [SEED]
 
-FOLDER has the compiled programs (target/bin after `rt check`). Of every field of every list COUNT bits (default 5) are
+FOLDER has the compiled programs at NAME/out/NAME (crates, after `rt run` in the folder of each). Of every field of every list COUNT bits (default 5) are
 turned, one at a time, in records that a seeded generator picks, and the program is run over the list so damaged. A line
 for each field: how many of the turned bits changed what the program prints. An expected value that is not compared would
 stand out with 0; the exit status is then 1. Fields of the input are turned too, for what they tell; some have no effect
@@ -158,7 +158,7 @@ def tried(folder, program, name, form, count, dice):
     fields = Fields(good)
     while fields.more():
         form(fields)
-    program, path, blind = os.path.join(folder, program), os.path.join(room, name), 0
+    program, path, blind = os.path.join(folder, program, "out", program), os.path.join(room, name), 0
     before = run(program, room)
     for (side, field), places in fields.places.items():
         places = [place for place in places if place[1] > 0]

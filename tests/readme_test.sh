@@ -32,22 +32,21 @@ for kind in sh console c rust rattle; do [ -n "$(blocks $kind)" ] || fail "READM
 rattle() {
   local part deps
   deps=$(sed -n 's/^packet://p' crates.txt)
-  mkdir -p "$room/rattle/crates/readme/src" "$room/rattle/target/rlib" "$room/rattle/target/stamp"
+  mkdir -p "$room/rattle/crates/readme/src"
   for part in packet $deps; do
     cp -a "crates/$part" "$room/rattle/crates/"
     grep "^$part:" crates.txt >> "$room/rattle/crates.txt"
-    [ ! -f "target/stamp/$part" ] || cp -a "target/stamp/$part" "$room/rattle/target/stamp/"
-    [ ! -d "target/rlib/$part.rlib" ] || cp -a "target/rlib/$part.rlib" "$room/rattle/target/rlib/"
   done
-  echo 'readme: io libc packet' >> "$room/rattle/crates.txt"
+  echo 'readme: packet' >> "$room/rattle/crates.txt"
   {
-    printf 'use libc::STDOUT_FILENO;\nuse packet::decode::Decoded;\nuse packet::decode::Packet;\n'
+    printf '#![tactic(auto)]\n\nuse packet::decode::Decoded;\nuse packet::decode::Packet;\n'
     cat "$1"
-    printf 'fn main() {\n    let whole = [%s];\n    let cut = [%s];\n' "$(bytes)" "$(bytes | sed 's/, [^,]*$//')"
-    printf '    io::write_all(STDOUT_FILENO, payload(&whole));\n    io::write_all(STDOUT_FILENO, b"|");\n    io::write_all(STDOUT_FILENO, payload(&cut));\n}\n'
+    printf 'fn main(rt: HostRuntime) -> std::io::Result<()> {\n    let whole = [%s];\n    let cut = [%s];\n' "$(bytes)" "$(bytes | sed 's/, [^,]*$//')"
+    printf '    for byte in payload(&whole) {\n        println!(rt; "{byte}")?;\n    }\n    println!(rt; "|")?;\n'
+    printf '    for byte in payload(&cut) {\n        println!(rt; "{byte}")?;\n    }\n    Ok(())\n}\n'
   } > "$room/rattle/crates/readme/src/main.rt"
-  printf 'A|' > "$room/rattle/crates/readme/stdout"
-  (cd "$room/rattle" && timeout 900 rt check readme) > "$room/said" 2>&1 || { cat "$room/said"; fail "the Rattle sample"; }
+  (cd "$room/rattle/crates/readme" && timeout 900 rt run) > "$room/wrote" 2> "$room/said" || { cat "$room/said"; fail "the Rattle sample"; }
+  [ "$(cat "$room/wrote")" = "$(printf '65\n|')" ] || fail "the Rattle sample printed $(cat "$room/wrote")"
 }
 bytes() { sed 's/\([0-9a-f][0-9a-f]\)/0x\1u8/g; s/ /, /g' "$room/blocks/datagram"; }
 for block in $(blocks rattle); do rattle "$block"; done
@@ -118,7 +117,7 @@ while read -r line; do
     ./test | './test '*) continue ;;
     *cc\ * | *cargo\ *) [ -z "$cross" ] || continue ;;
   esac
-  line=${line#rt staticlib ribsaddle && }       # tests/library.sh runs that, and once is enough: it proves the library anew
+  line=${line#sh tools/library.sh && }       # tests/library.sh runs that, and once is enough: it proves the library anew
   typed "$line" > "$room/said" 2>&1 || { cat "$room/said"; fail "this failed: $line"; }
   echo "readme_test.sh: ran ${line%%  *}"
 done < "$room/typed"
