@@ -12,6 +12,7 @@ use packet::sack;
 use packet::sack::Checked;
 
 // The checks of an ack, in their order: 11, 5, 6, 8, 12.
+#[tactic(auto, unfolding(crate::specs::Ack::ack_check))]
 pub fn ack_check(
     last: u64,
     count: u32,
@@ -46,7 +47,7 @@ pub fn ack_check(
 
 // What an ack brings: the offset of its number, the delay with the base that goes with it, and the
 // clock; beside how many packets were sent and how many of them are no longer kept.
-#[derive(Drop)]
+#[derive(Clone, Copy)]
 pub struct Ack {
     pub offset: u32,
     pub gone: u32,
@@ -57,7 +58,7 @@ pub struct Ack {
 }
 
 // A run of steps: `count` of them, from `from` on.
-#[derive(Drop)]
+#[derive(Clone, Copy)]
 pub struct Run {
     pub from: u32,
     pub count: u32,
@@ -141,7 +142,7 @@ impl Run {
 }
 
 // What an ack works on, and whether a packet was newly acknowledged (1) or none (0).
-#[derive(Drop)]
+#[derive(Clone, Copy)]
 pub struct Heard {
     pub packets: [Packet; 512],
     pub numbers: Numbers,

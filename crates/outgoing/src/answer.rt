@@ -10,7 +10,7 @@ use seq::{CircularRangeInclusive, SeqNum};
 // delay above 2^50 or a clock before the last accepted one (11), a number that was not sent or a
 // position at or past the count (12), a packet longer than the free window (13), no place left (14),
 // 60,000 packets sent already (15), a state that is not sound (19).
-#[derive(Drop)]
+#[derive(Clone, Copy)]
 pub enum Reason {
     BadSack(SackReason),
     BadSetting,
@@ -40,45 +40,45 @@ impl Reason {
     }
 }
 
-#[derive(Drop)]
+#[derive(Clone, Copy)]
 pub enum Outcome {
     Done,
     Refused(Reason),
 }
 
-#[derive(Drop)]
+#[derive(Clone, Copy)]
 pub enum NumberTold {
     Number(u64),
     Refused(Reason),
 }
 
-#[derive(Drop)]
+#[derive(Clone, Copy)]
 pub enum SeqTold {
     Seq(SeqNum),
     Refused(Reason),
 }
 
-#[derive(Drop)]
+#[derive(Clone, Copy)]
 pub enum RangeTold {
     Range(CircularRangeInclusive),
     Refused(Reason),
 }
 
-#[derive(Drop)]
+#[derive(Clone, Copy)]
 pub enum TruthTold {
     Truth(bool),
     Refused(Reason),
 }
 
 // A lost packet, as it is to be sent again.
-#[derive(Drop)]
+#[derive(Clone, Copy)]
 pub struct LostPacket {
     pub seq_num: SeqNum,
     pub packet_type: PacketType,
     pub tag: u32,
 }
 
-#[derive(Drop)]
+#[derive(Clone, Copy)]
 pub enum LostTold {
     Lost(LostPacket),
     Refused(Reason),

@@ -8,7 +8,7 @@ ghost use Rattle.outgoing.specs.Transmit.{with_resent};
 
 // A packet that was sent. `kind` is the type's number; `acked`, `lost` and `resent` are 0 or 1.
 #[repr(C)]
-#[derive(Drop)]
+#[derive(Clone, Copy)]
 pub struct Packet {
     pub sent_at: u64,
     pub tag: u32,

@@ -9,6 +9,7 @@ use congestion::numbers::Numbers;
 use congestion::settings::Settings;
 
 // The checks of a transmit, in their order: 11, 12, and of a first one 15, 13, 14.
+#[tactic(auto, unfolding(crate::specs::Transmit::transmit_check))]
 pub fn transmit_check(
     numbers: Numbers,
     count: u32,
