@@ -19,7 +19,7 @@ def prod(xs, end):
 
 
 lst = lambda xs: "".join(f"{x} ∷ " for x in xs) + "[]"
-nth = lambda base, i: base + " .1" * i + " .0"
+nth = lambda base, i: base + ".1" * i + ".0"
 par = lambda s: s if re.fullmatch(r"\S+", s) else f"({s})"
 
 
@@ -68,14 +68,34 @@ class Context:
         return re.sub(r" ?\n ?", "\n" + " " * pad, " ".join(self.t))
 
 
+def theorem(model, spells, tells, enter, goes):
+    """The end of a file: the function's code meets the contract, over any tables, and over those of its environment."""
+    return f"""  walks : {model} (C : Calls 𝓤 𝓛.H) (Λ : Loops 𝓤 𝓛.H) → FmC 𝓤 𝓛.H 𝓛.laws C → Triple 𝓤 (C key) (Callee 𝓛) → Walks 𝓛 ended stayed (WpFn 𝓤 𝓛.H C Λ function) (clauses 𝓛)
+  walks {{𝓤 = 𝓤}} 𝓛 C Λ fm known = walked 𝓛 ended stayed (clauses 𝓛) (WpFn 𝓤 𝓛.H C Λ function) (λ κs. {spells}) (λ κs. {tells})
+      (λ κs qs bounds a g are. {enter})
+
+  meets : {model} (𝓣 : Tables 𝓤 𝓛.H) → Triple 𝓤 (𝓣.C key) (Callee 𝓛) → Meets 𝓛 signature (WpFn 𝓤 𝓛.H 𝓣.C 𝓣.Λ function) (closing 𝓛 ended (clauses 𝓛))
+  meets {{𝓤 = 𝓤}} 𝓛 𝓣 known = walk_Meets 𝓛 ended stayed {goes} (clauses 𝓛) (WpFn 𝓤 𝓛.H 𝓣.C 𝓣.Λ function) (WpFn-mono 𝓤 𝓛.H 𝓛.laws 𝓣 function)
+      (walks 𝓛 𝓣.C 𝓣.Λ (fm_of 𝓤 𝓛.H 𝓛.laws 𝓣) known)
+
+  -- over the tables of the function's environment, from the callee's own theorem
+  pub proved : {model} (𝓜 : Model 𝓤 𝓛.H) (𝓡 : Running 𝓤 𝓛.H 𝓜) (env : Env) (self : Name) → Closed 𝓤 𝓛.H (tables 𝓤 𝓛.H 𝓜 𝓡 env).C (tables 𝓤 𝓛.H 𝓜 𝓡 env).Λ self function
+      → (routine : Routine) → env key ≡ routine → Triple 𝓤 (𝓡.run routine) (Callee 𝓛) → Meets 𝓛 signature ((tables 𝓤 𝓛.H 𝓜 𝓡 env).C self) (closing 𝓛 ended (clauses 𝓛))
+  unfolding tables_of
+  proved {{𝓤 = 𝓤}} 𝓛 𝓜 𝓡 env self closed routine calls met =
+      entered 𝓤 𝓛.H (triple_of 𝓛 signature (closing 𝓛 ended (clauses 𝓛))) (tables 𝓤 𝓛.H 𝓜 𝓡 env).C (tables 𝓤 𝓛.H 𝓜 𝓡 env).Λ self function closed
+      (meets 𝓛 (tables_of 𝓤 𝓛.H 𝓜 (tables 𝓤 𝓛.H 𝓜 𝓡 env)) (cited 𝓤 𝓛.H (Callee 𝓛) 𝓜 𝓡 env key routine calls met))"""
+
+
 def with_uses(text, homes, more):
     """The text with its `use` lines in the place of @USES@: of each line of `homes`, a module and its names (`T:Holds` is T as Holds), those that the text has."""
-    words = set(re.findall(r"[^\s(){}.,;]+", text.split("@USES@")[1]))
+    body = re.sub(r"(?<=[\w)])\.\w+", "", text.split("@USES@")[1])     # a field's name is no name that is imported
+    words = set(re.findall(r"[^\s(){}.,;]+", body))
     uses = []
     for line in homes.split("\n"):
         module, *names = line.split()
         names = [n.split(":") for n in names]
-        names = [n[0] + (" as " + n[1] if len(n) > 1 else "") for n in names if n[-1].strip("_") in words or n[-1] in words]
+        names = [n[0] + (" as " + n[1] if len(n) > 1 else "") for n in names if n[-1].strip("◌") in words or n[-1] in words]
         if names:
             uses.append(f"use {module}.{{{', '.join(names)}}}")
     return text.replace("@USES@", "\n".join([*uses, *more, ""]))

@@ -8,7 +8,7 @@ use crate::{trip, window};
 
 // Times are whole microseconds, sizes bytes.
 #[repr(C)]
-#[derive(Drop)]
+#[derive(Clone, Copy)]
 pub struct Numbers {
     pub target: u32,
     pub largest_packet: u32,

@@ -5,7 +5,7 @@ ghost use Rattle.congestion.specs.Settings.{in_range_of, gain_in_range_of};
 // Times are whole microseconds, sizes bytes. Each field is wide, so that a value out of range can be
 // given and is refused here.
 #[repr(C)]
-#[derive(Drop)]
+#[derive(Clone, Copy)]
 pub struct Settings {
     pub target_delay: u64,
     pub first_timeout: u64,

@@ -11,8 +11,8 @@ const TOP: u64 = Numbers::LARGEST_MAXIMUM as u64;
 
 // The whole part of an x from 1 up to 2^64: the digits of its bit pattern, shifted.
 fn digits_of(x: f64) -> u64
-    requires fact_1 { T (Ieee.le (fin false 1 (pos 0)) x) }
-    requires fact_2 { T (Ieee.lt x (fin false 1 (pos 64))) }
+    requires at_least_one { T (Ieee.le (fin false 1 (pos 0)) x) }
+    requires below_two_to_64 { T (Ieee.lt x (fin false 1 (pos 64))) }
     ensures { result ≡ Ieee.to_unsigned 64 x }
 {
     // x is `digits` * 2 ^ (`exponent` - 1075)

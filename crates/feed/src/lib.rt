@@ -1,20 +1,40 @@
-// Reading a list of records from a file descriptor, through a window of bounded size that the caller
-// lends. Numbers in a list are big-endian.
+// Reading a list of records from a file or from standard input, through a window of bounded size that
+// the caller lends. Numbers in a list are big-endian.
 
 #![tactic(auto)]
 
 ghost use Rattle.std.specs.Prelude.{◌≡◌, ◌+◌, ◌*◌, ◌%◌, ◌≤◌};
 
+use std::fs::File;
+use std::io::{Error, Read, Result, Stdin};
+
+// What is read: standard input, or a file, which is closed with the last value that holds it.
+#[derive(Drop)]
+pub enum Source {
+    Input(Stdin),
+    Opened(File),
+}
+
+impl Source {
+    // Reads once into the window, and answers how many bytes.
+    fn read(&mut self, window: &mut [u8]) -> Result<usize> {
+        match self {
+            Source::Input(input) => input.read(window),
+            Source::Opened(file) => file.read(window),
+        }
+    }
+}
+
 // Where the reading stands. The bytes of the window from `at` up to `end` are still to be taken.
-// `ended`: nothing more will come. `failed`: because a read failed. `short`: more was asked for than
-// there was, and zeros were given for it.
+// `ended`: nothing more will come. `failed`: because a read failed, and why it did. `short`: more was
+// asked for than there was, and zeros were given for it.
 #[derive(Drop)]
 pub struct Feed {
-    pub fd: i32,
+    pub source: Source,
     pub at: usize,
     pub end: usize,
     pub ended: bool,
-    pub failed: bool,
+    pub failed: Option<Error>,
     pub short: bool,
 }
 
@@ -53,13 +73,13 @@ pub fn appended(value: u64, byte: u8) -> u64
 }
 
 impl Feed {
-    pub fn new(fd: i32) -> Self {
+    pub fn new(source: Source) -> Self {
         Self {
-            fd,
+            source,
             at: 0,
             end: 0,
             ended: false,
-            failed: false,
+            failed: None,
             short: false,
         }
     }
@@ -72,19 +92,24 @@ impl Feed {
         if self.ended {
             return self;
         }
-        let got = libc::read(self.fd, window);
-        Feed {
-            fd: self.fd,
-            at: 0,
-            end: io::count(got, window),
-            ended: got <= 0,
-            failed: got < 0,
-            short: self.short,
+        let mut feed = self;
+        feed.at = 0;
+        match feed.source.read(window) {
+            Ok(count) => {
+                feed.end = count;
+                feed.ended = count == 0;
+            }
+            Err(error) => {
+                feed.end = 0;
+                feed.ended = true;
+                feed.failed = Some(error);
+            }
         }
+        feed
     }
 
     // Is a byte left? To be asked of a feed that is filled.
-    pub fn has_more(self) -> bool {
+    pub fn has_more(&self) -> bool {
         self.at < self.end
     }
 

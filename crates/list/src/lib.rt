@@ -4,11 +4,14 @@
 
 #![tactic(auto)]
 
-ghost use Rattle.std.specs.Prelude.{◌≡◌, length};
+ghost use Rattle.std.specs.Prelude.{◌≡◌, ◌≤◌, length};
 
 use feed::appended;
-use libc::STDERR_FILENO;
+use report::failure::fail;
 use report::text::front;
+use std::fs;
+use std::io::Read;
+use std::rt::Files;
 
 // One byte more than the longest list that is held.
 const ROOM: usize = 1048576;
@@ -22,27 +25,40 @@ pub fn room() -> [u8; ROOM]
 
 // Reads a list to the front of the room, and answers its length. Says so of one that cannot be opened,
 // and of one that does not fit, of which nothing is held then.
-pub fn read(name: &[u8], room: &mut [u8]) -> usize {
-    let fd = os::open_read(name);
-    if fd < 0 {
-        os::fail(name);
-        return 0;
-    }
-    let size = io::read_full(fd, room);
-    libc::close(fd);
+pub fn read(rt: &(impl Files + Eprint), name: &str, room: &mut [u8]) -> usize {
+    let mut file = match fs::open(rt, name) {
+        Ok(file) => file,
+        Err(error) => {
+            fail(rt, name, &error);
+            return 0;
+        }
+    };
+    let size = read_full(&mut file, room);
     if size == room.len() {
-        say_larger(name);
+        say_larger(rt, name);
         return 0;
     }
     size
 }
 
-fn say_larger(name: &[u8]) {
-    io::write_all(STDERR_FILENO, name);
-    io::write_all(
-        STDERR_FILENO,
-        b": larger than 1048575 bytes, which is the most of a list\n",
-    );
+// Reads until the room is full, the list ends or a read fails, and answers how many bytes it put at the
+// front of the room.
+fn read_full(file: &mut impl Read, room: &mut [u8]) -> usize
+    ensures { result ≤ length room.old }
+{
+    let mut done = 0;
+    while done < room.len() {
+        match file.read(&mut room[done..]) {
+            Ok(0) => return done,
+            Ok(count) => done += count,
+            Err(_) => return done,
+        }
+    }
+    done
+}
+
+fn say_larger(rt: &impl Eprint, name: &str) {
+    let _ = eprintln!(rt; "{name}: larger than 1048575 bytes, which is the most of a list");
 }
 
 // What stands from a place on.

@@ -3,7 +3,7 @@ use Prim.Native.Nat.{ℕ}
 use mathlib.Core.List.{List}
 use mathlib.Core.Path.{◌∙◌, sym}
 use Rattle.common.specs.Promise.{Promise, by_value, by_code}
-use Rattle.packet.specs.Answers.{type_read, checked, stepped, decoded, encoded}
+use Rattle.packet.specs.Answers.{type_read, checked, stepped, decoded}
 use Rattle.packet.specs.Laws.OneToOne.{type_read_one_to_one, checked_one_to_one, stepped_one_to_one, decoded_one_to_one, encoded_one_to_one}
 use Rattle.packet.specs.declared.encode.Encoded.{Encoded}
 use Rattle.packet.proofs.kind.PacketType.number.Reads as number

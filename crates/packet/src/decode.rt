@@ -11,7 +11,7 @@ use crate::sack::SackReason;
 
 // A datagram that was read: its header, the first SACK (no bytes where there is none), and the
 // payload, the two as parts of the datagram.
-#[derive(Drop)]
+#[derive(Clone, Copy)]
 pub struct Packet {
     pub header: Header,
     pub sack: Part,
@@ -19,7 +19,7 @@ pub struct Packet {
 }
 
 // Why a datagram is refused: header 1, 2, 3; extension 4; SACK 5, 6; payload 7.
-#[derive(Drop)]
+#[derive(Clone, Copy)]
 pub enum Reason {
     BadHeader(HeaderReason),
     Extension,
@@ -27,7 +27,7 @@ pub enum Reason {
     EmptyData,
 }
 
-#[derive(Drop)]
+#[derive(Clone, Copy)]
 pub enum Decoded {
     Accepted(Packet),
     Undecoded(Reason),

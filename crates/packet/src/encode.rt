@@ -12,14 +12,14 @@ use crate::number::{put_all, put16};
 use crate::sack::{Checked, SackReason, check};
 
 // Why a packet is not written: its SACK's length 5, 6, 8; Data with no payload 7; room 9.
-#[derive(Drop)]
+#[derive(Clone, Copy)]
 pub enum Unwritten {
     BadSack(SackReason),
     EmptyData,
     NoRoom,
 }
 
-#[derive(Drop)]
+#[derive(Clone, Copy)]
 pub enum Encoded {
     Written(usize),
     Refused(Unwritten),
@@ -39,7 +39,7 @@ impl Unwritten {
 }
 
 // What a check of one part of a packet finds.
-#[derive(Drop)]
+#[derive(Clone, Copy)]
 enum Found {
     Fit(usize),
     Unfit(Unwritten),
@@ -126,7 +126,7 @@ fn put_plain(room: &mut [u8], header: Header, payload: &[u8])
 // Writes a packet with a SACK. Its next byte, 0, and its length are one number of two bytes.
 fn put_sacked(room: &mut [u8], header: Header, sack: &[u8], payload: &[u8])
     requires payload_in_bounds { 22 + length sack.now + length payload.now ≤ length room.old }
-    requires in_bounds { (1 ≤ length sack.now) × (length sack.now ≤ 252) }
+    requires sack_in_bounds { (1 ≤ length sack.now) × (length sack.now ≤ 252) }
     ensures { room.new ≡ put room.old 0 (packet_bytes header sack.now payload.now) }
 {
     put_header(room, header, 1);

@@ -5,20 +5,20 @@ ghost use Rattle.packet.specs.Decode.{part_of};
 ghost use Rattle.packet.specs.Answers.{stepped, ended, chain_read};
 
 // A part of a datagram, by its place and length.
-#[derive(Drop)]
+#[derive(Clone, Copy)]
 pub struct Part {
     pub at: usize,
     pub len: usize,
 }
 
-#[derive(Drop)]
+#[derive(Clone, Copy)]
 pub struct Extension {
     pub number: u8,
     pub body: Part,
 }
 
 // Where a walk along the chain stands: the number of the current extension, and its place.
-#[derive(Drop)]
+#[derive(Clone, Copy)]
 pub struct Cursor {
     pub number: u8,
     pub at: usize,
@@ -26,7 +26,7 @@ pub struct Cursor {
 
 // What a step finds: the end of the chain, an extension and where the next one stands, or a head or
 // body that runs past the end of the datagram (4).
-#[derive(Drop)]
+#[derive(Clone, Copy)]
 pub enum Step {
     Ends,
     Extension,
@@ -34,7 +34,7 @@ pub enum Step {
 }
 
 // Where a chain ends, unless it runs past the end of the datagram (4).
-#[derive(Drop)]
+#[derive(Clone, Copy)]
 pub(crate) enum End {
     Extension,
     At(usize),
@@ -42,7 +42,7 @@ pub(crate) enum End {
 
 // What decoding keeps of a chain: where it ends, and the body of its first SACK, unless it runs past
 // the end of the datagram (4).
-#[derive(Drop)]
+#[derive(Clone, Copy)]
 pub(crate) enum ChainRead {
     Extension,
     Plain(usize),

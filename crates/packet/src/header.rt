@@ -10,7 +10,7 @@ use seq::SeqNum;
 
 // What stands in a header: all but the version, which is 1, and the first extension, which goes
 // with the chain.
-#[derive(Drop)]
+#[derive(Clone, Copy)]
 pub struct Header {
     pub packet_type: PacketType,
     pub conn_id: u16,
@@ -22,7 +22,7 @@ pub struct Header {
 }
 
 // Why a datagram has no header: 1, 2, 3.
-#[derive(Drop)]
+#[derive(Clone, Copy)]
 pub enum HeaderReason {
     TooShort,
     UnknownType,

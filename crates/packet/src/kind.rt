@@ -3,7 +3,7 @@ ghost use Rattle.std.specs.Prelude.{◌≡◌};
 ghost use Rattle.packet.specs.Kind.{type_number, type_answer};
 ghost use Rattle.packet.specs.Answers.{type_read};
 
-#[derive(Drop)]
+#[derive(Clone, Copy)]
 pub enum PacketType {
     Data,
     Fin,
@@ -12,7 +12,7 @@ pub enum PacketType {
     Syn,
 }
 
-#[derive(Drop)]
+#[derive(Clone, Copy)]
 pub enum TypeRead {
     Known(PacketType),
     UnknownType,

@@ -7,14 +7,14 @@ use seq::SeqNum;
 
 // What is wrong with a SACK's length: under 32 bits (5), no whole number of 32-bit words (6), above
 // 252 bytes (8).
-#[derive(Drop)]
+#[derive(Clone, Copy)]
 pub enum SackReason {
     SackShort,
     SackNotWords,
     SackLong,
 }
 
-#[derive(Drop)]
+#[derive(Clone, Copy)]
 pub enum Checked {
     Fine(usize),
     Bad(SackReason),

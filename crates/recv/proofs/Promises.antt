@@ -6,7 +6,6 @@ use Rattle.common.specs.Promise.{Promise, by_value}
 use Rattle.recv.specs.declared.Count.{Count}
 use Rattle.recv.specs.declared.Taken.{Taken}
 use Rattle.recv.specs.declared.Written.{Written}
-use Rattle.recv.specs.declared.Writing.{Writing}
 use Rattle.recv.proofs.Refusal.number.Reads as number
 use Rattle.recv.proofs.ReceiveBuffer.new.Reads as new
 use Rattle.recv.proofs.ReceiveBuffer.write.Reads as write

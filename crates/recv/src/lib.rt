@@ -23,7 +23,7 @@ ghost use Rattle.recv.specs.Table.{bytes_in, how_many, there_of, free_of};
 // the offsets past them: 0 where nothing waits, else the payload's length plus 1. The lent buffer
 // holds `ready` bytes in order, then the waiting payloads by offset, end to end, then spare bytes.
 #[repr(C)]
-#[derive(Drop)]
+#[derive(Clone, Copy)]
 pub struct ReceiveBuffer {
     pub initial: SeqNum,
     pub length: u32,
@@ -34,7 +34,7 @@ pub struct ReceiveBuffer {
 }
 
 // Why a call is refused.
-#[derive(Drop)]
+#[derive(Clone, Copy)]
 pub enum Refusal {
     // 9: the lent room is too small.
     NoRoom,
@@ -70,21 +70,21 @@ impl Refusal {
 }
 
 // What a call that makes a receiver answers.
-#[derive(Drop)]
+#[derive(Clone, Copy)]
 pub enum Creation {
     Made,
     Refused(Refusal),
 }
 
 // The answer, and beside it the receiver; with a refusal, a state of length 0, which no call takes.
-#[derive(Drop)]
+#[derive(Clone, Copy)]
 pub struct Created {
     pub answer: Creation,
     pub state: ReceiveBuffer,
 }
 
 // What a write answers.
-#[derive(Drop)]
+#[derive(Clone, Copy)]
 pub enum Writing {
     Stored,
     AlreadyThere,
@@ -92,35 +92,35 @@ pub enum Writing {
 }
 
 // The answer of a write, and beside it the receiver.
-#[derive(Drop)]
+#[derive(Clone, Copy)]
 pub struct Written {
     pub answer: Writing,
     pub state: ReceiveBuffer,
 }
 
 // How many bytes a read took, or why none; and beside it the receiver.
-#[derive(Drop)]
+#[derive(Clone, Copy)]
 pub struct Taken {
     pub answer: Count,
     pub state: ReceiveBuffer,
 }
 
 // How many, or why not.
-#[derive(Drop)]
+#[derive(Clone, Copy)]
 pub enum Count {
     Is(usize),
     Refused(Refusal),
 }
 
 // Whether it holds, or why that is not said.
-#[derive(Drop)]
+#[derive(Clone, Copy)]
 pub enum Truth {
     Is(bool),
     Refused(Refusal),
 }
 
 // Which number, or why none.
-#[derive(Drop)]
+#[derive(Clone, Copy)]
 pub enum Number {
     Is(SeqNum),
     Refused(Refusal),
@@ -128,7 +128,7 @@ pub enum Number {
 
 // A receiver apart from its table, which is lent beside it.
 #[repr(C)]
-#[derive(Drop)]
+#[derive(Clone, Copy)]
 pub struct Counts {
     pub initial: SeqNum,
     pub length: u32,
@@ -138,14 +138,14 @@ pub struct Counts {
 }
 
 // The answer of a write in place, and beside it the counts.
-#[derive(Drop)]
+#[derive(Clone, Copy)]
 pub struct StepWrite {
     pub answer: Writing,
     pub counts: Counts,
 }
 
 // The answer of a read in place, and beside it how many bytes are ready: nothing else changes.
-#[derive(Drop)]
+#[derive(Clone, Copy)]
 pub struct StepRead {
     pub answer: Count,
     pub ready: u32,
@@ -162,6 +162,7 @@ impl Counts {
     }
 
     // Whether the state passes the soundness test.
+    #[tactic(auto, unfolding(crate::specs::State::sound_of))]
     fn is_sound(self, waiting: &[u32; 256], held: u64) -> bool
         requires { (length waiting.now ≡ 256) × (Held (whole self waiting.now) held) }
         ensures { result ≡ sound_of (whole self waiting.now) }

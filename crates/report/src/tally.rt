@@ -1,9 +1,10 @@
 // Counting cases that were compared with what is expected of them, and the line that reports it.
 use crate::text::{print, put_byte, put_bytes, put_next, put_number};
+use std::io::Result;
 
 // How many cases were compared, how many differ, how many have each answer number, and the indices of
 // the first that differ.
-#[derive(Drop)]
+#[derive(Clone, Copy)]
 pub struct Tally {
     pub compared: u64,
     pub differ: u64,
@@ -41,8 +42,8 @@ impl Tally {
     }
 
     // Prints `NAME: COUNT compared; answers NUMBER:COUNT ..; COUNT differ`, and behind it the indices of
-    // the first cases that differ.
-    pub fn print(self, name: &[u8]) {
+    // the first cases that differ. Fails where the line was not all written.
+    pub fn print(self, rt: &impl Print, name: &[u8]) -> Result<()> {
         let answers = self.answers;
         let first = self.first;
         let mut room = io::buffer();
@@ -51,7 +52,7 @@ impl Tally {
         let used = put_differ(&mut room, used, self.differ);
         let used = put_first(&mut room, used, &first, self.differ);
         let used = put_byte(&mut room, used, b'\n');
-        print(&room, used);
+        print(rt, &room, used)
     }
 }
 

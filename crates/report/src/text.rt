@@ -4,7 +4,7 @@
 ghost use Rattle.std.specs.Prelude.{◌≡◌, ◌≤◌, max, length, take};
 
 use io::decimal;
-use libc::STDOUT_FILENO;
+use std::io::Result;
 
 pub fn put_byte(room: &mut [u8], at: usize, byte: u8) -> usize
     ensures { result ≤ max at (length room.old) }
@@ -79,7 +79,7 @@ pub fn front(s: &[u8], count: usize) -> &[u8]
     if count <= s.len() { &s[..count] } else { s }
 }
 
-// Prints the first so many bytes of the buffer, and answers whether they were all written.
-pub fn print(room: &[u8], used: usize) -> bool {
-    io::write_all(STDOUT_FILENO, front(room, used))
+// Prints the first so many bytes of the buffer, or fails where they were not all written.
+pub fn print(rt: &impl Print, room: &[u8], used: usize) -> Result<()> {
+    rt.write_all(front(room, used))
 }

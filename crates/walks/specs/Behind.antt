@@ -1,4 +1,4 @@
--- What the walks of this folder (`Mut_*.antt`, `Ref_*.antt`) are over: a plain argument, a state, and a result that holds an answer and the next state.
+-- What the walks of this folder (`Mut*.antt`, `Part*.antt`, `Ref*.antt`) are over: a plain argument, a state, and a result that holds an answer and the next state.
 --     Arg          a built-in type that owns only facts, with its machine value as a function of the value.        row_of     its row, which at `uint w32` is `u32` by computation
 --     State        a declared struct of plain data, with the laws that its generated module has
 --     Out S Ans    a declared struct of an answer and a state, in that order
@@ -12,9 +12,10 @@ use mir.ValLaws.{eq_f_refl}
 use mir.Val.{Val, vint, vbool, vfloat, vstruct, vnil, vcons, WT, has_ty, bytes}
 use Rattle.std.specs.Borrow.{Fml, RattleType}
 use Rattle.std.specs.Coded.{Coded, coded_ℕ, coded_bool}
+use denote.RattleType.{RowLaws}
 use denote.Shadow.{shadow, Pure}
 use denote.Laws.{Is}
-use denote.Plain.{plain_type, UInt, Boolean, uint_Tells, bool_Tells}
+use denote.Plain.{plain_type, plain_row_laws, UInt, Boolean, uint_Tells, bool_Tells}
 use denote.Floats.{FloatOf, float_Tells, passes}
 use denote.Struct.Struct.{Plains, Struct, layout}
 use denote.Struct.Declared.{Declared, fields, row, shape}
@@ -32,16 +33,20 @@ pub record Arg : Type 2 where
   pub typed : (x : X) → shadow (own x (val x ∷ [])) → Holds (has_ty ty (val x)) × WT (val x)
 
 abbrev pub row_of : Arg → RattleType
-row_of a = plain_type a.X a.coded (a.ty ∷ []) a.own
+row_of a = plain_type a.X a.coded (a.ty ∷ []) a.own a.pure
+
+-- a `&` to such a value can be had twice
+pub row_laws : (a : Arg) → RowLaws (row_of a)
+row_laws a = plain_row_laws a.X a.coded (a.ty ∷ []) a.own a.pure
 
 abbrev pub uint : Width → Arg
 uint w = record { X = ℕ; coded = coded_ℕ; ty = ty_int w; own = (UInt w).own_val; pure = λ x vs. (tt, tt); val = vint w; tells = uint_Tells w; typed = λ n p. (eqb_refl (bytes w), record { fits = p.1 }) }
 
 abbrev pub float : Format → Arg
-float f = record { X = Float; coded = (FloatOf f).coded; ty = ty_float f; own = (FloatOf f).own; pure = λ x vs. (tt, tt); val = vfloat f; tells = float_Tells f; typed = λ x p. (eq_f_refl f, passes (Ieee.fits f x) p.1) }
+float f = record { X = Float; coded = (FloatOf f).coded; ty = ty_float f; own = (FloatOf f).own_val; pure = λ x vs. (tt, tt); val = vfloat f; tells = float_Tells f; typed = λ x p. (eq_f_refl f, passes (Ieee.fits f x) p.1) }
 
 abbrev pub boolean : Arg
-boolean = record { X = Bool; coded = coded_bool; ty = ty_bool; own = Boolean.own; pure = λ x vs. tt; val = vbool; tells = bool_Tells; typed = λ x p. (tt, tt) }
+boolean = record { X = Bool; coded = coded_bool; ty = ty_bool; own = Boolean.own_val; pure = λ x vs. tt; val = vbool; tells = bool_Tells; typed = λ x p. (tt, tt) }
 
 pub record State : Type 2 where
   pub T : Declared

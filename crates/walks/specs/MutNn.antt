@@ -3,8 +3,8 @@
 use Rattle.std.specs.Prelude.{◌≡◌, refl, ℕ, [], ◌∷◌, List, T as Holds}
 use Rattle.std.proofs.Common.{sym, ap, subst}
 use seplogic.Ra.Ura.{Ura}
-use seplogic.Ra.TreeShare.{full_share}
-use mir.Syntax.{Name, Ty, Fn, named, mut, ty_ref, ty_struct, tnil, tcons, local, value_local, place, deref, field, copy, rv_opd, seq, assign, call, return}
+use base.Fraction.{full_share}
+use mir.Syntax.{Callee as Name, Ty, Fn, named, mut, ty_ref, ty_struct, tnil, tcons, local, value_local, place, deref, field, copy, rv_opd, seq, assign, call, return}
 use mir.Val.{Val, vptr, WT, has_ty}
 use base.Logic.{SProp, ent, emp, via, fst∗, id⊢}
 use base.Fml.{GName, Lft, Share, ftrue, flft, fobs, fbor, fat}
@@ -55,9 +55,11 @@ module _ (S : State) (A₁ A₂ : Arg) (Ans : Arg) (O : Out S Ans) (key : Name) 
   function = record {
     lifetimes = 1;
     outlives = [];
+    ty_params = [];
+    givens = 0;
     params = 3;
-    locals = local Ans.ty value_local ∷ local (ty_ref (named 0) mut (pointee (state_row S).written)) value_local ∷ local A₁.ty value_local ∷ local A₂.ty value_local ∷ local τS value_local ∷ local τO value_local ∷ [];
-    body = seq (assign (place 4 []) (rv_opd (copy (place 1 (deref τS ∷ []))))) (seq (call key (copy (place 4 []) ∷ copy (place 2 []) ∷ copy (place 3 []) ∷ []) (place 5 [])) (seq (assign (place 1 (deref τS ∷ [])) (rv_opd (copy (place 5 (field 1 ∷ []))))) (seq (assign (place 0 []) (rv_opd (copy (place 5 (field 0 ∷ []))))) return)));
+    locals = local Ans.ty value_local ∷ local (ty_ref (named 0) mut (pointee (state_row S).written)) value_local ∷ local A₁.ty value_local ∷ local A₂.ty value_local ∷ local τS value_local ∷ local τO value_local ∷ local τS value_local ∷ [];
+    body = seq (assign (place 4 []) (rv_opd (copy (place 1 (deref τS ∷ []))))) (seq (call key (copy (place 4 []) ∷ copy (place 2 []) ∷ copy (place 3 []) ∷ []) (place 5 [])) (seq (assign (place 6 []) (rv_opd (copy (place 5 (field 1 ∷ []))))) (seq (assign (place 1 (deref τS ∷ [])) (rv_opd (copy (place 6 [])))) (seq (assign (place 0 []) (rv_opd (copy (place 5 (field 0 ∷ []))))) return))));
   }
 
   abbrev pub callee : Signature
@@ -139,18 +141,19 @@ module _ (S : State) (A₁ A₂ : Arg) (Ans : Arg) (O : Out S Ans) (key : Name) 
       walk : ent 𝓤 (on_entry 𝓛 signature (κ, tt) (q, tt) x at) (WpFn 𝓤 H C Λ function (vptr b o ∷ A₁.val a₁ ∷ A₂.val a₂ ∷ []) After)
       walk =
           qed 𝓛 ((‵ (flft κ q) ⊛ ‵ ftrue) ∷ ‵ (owns (MutRef (named 0) κ (state_row S) ∷ row_of A₁ ∷ row_of A₂ ∷ []) x at) ∷ []) ∵ enter ! C Λ function (vptr b o ∷ A₁.val a₁ ∷ A₂.val a₂ ∷ []) _ $
-          alloc1 ! (λ b₀. alloc1 ! (λ b₁. alloc1 ! (λ b₂. alloc1 ! (λ b₃. alloc1 ! (λ b₄. alloc1 ! (λ b₅. alloc0 ! $ params1 ! $ pass1 ! (init ! 8 refl (tt, tt)) $ pass1 ! (init ! 6 refl (A₁.typed a₁ p₁)) $ pass1 ! (init ! 4 refl (A₂.typed a₂ p₂)) $ pass0 ! $
-          move ! (13 ∷ []) $ fsplit ! $ move ! (1 ∷ []) $ drop ! $ fsplit3 ! $ drop ! $ move ! (14 ∷ []) $ split ! $ move ! (1 ∷ []) $ drop ! $
+          alloc1 ! (λ b₀. alloc1 ! (λ b₁. alloc1 ! (λ b₂. alloc1 ! (λ b₃. alloc1 ! (λ b₄. alloc1 ! (λ b₅. alloc1 ! (λ b₆. alloc0 ! $ params1 ! $ pass1 ! (init ! 10 refl (tt, tt)) $ pass1 ! (init ! 8 refl (A₁.typed a₁ p₁)) $ pass1 ! (init ! 6 refl (A₂.typed a₂ p₂)) $ pass0 ! $
+          move ! (15 ∷ []) $ fsplit ! $ move ! (1 ∷ []) $ drop ! $ fsplit3 ! $ drop ! $ move ! (16 ∷ []) $ split ! $ move ! (1 ∷ []) $ drop ! $
           move ! (1 ∷ 2 ∷ 0 ∷ []) $ opens ! tt (state_row S) {h = h} b o (λ vs. spelt ! (state_row S) (Is (state_row S)) (shows 𝓛 (state_row S)) (LL.vals S.T S.L) (LL.tells S.T S.L) full_share h vs b o $ move ! (1 ∷ []) $ peeks ! (state_row S) (Is (state_row S)) (shows 𝓛 (state_row S)) h (mach h ∷ []) (λ was.
-          assigns ! (of_opd ! (load ! (from ! (hop ! (look ! 13 refl) (stop !))) (look_raw ! 1 refl))) (from ! (stop !)) (init ! 7 refl ((LL.lawful S.T S.L 𝓛).typed h _ was).0) $
-          use0 𝓛 (raw ((Callee 𝓛).pre to)) (asked was) $ calls_at ! fm (Callee 𝓛) known to (and_then ! (load ! (from ! (stop !)) (look ! 8 refl)) (and_then ! (load ! (from ! (stop !)) (look ! 12 refl)) (and_then ! (load ! (from ! (stop !)) (look ! 10 refl)) (no_more !)))) (λ v.
+          assigns ! (of_opd ! (load ! (from ! (hop ! (look ! 15 refl) (stop !))) (look_raw ! 1 refl))) (from ! (stop !)) (init ! 9 refl (((LL.lawful S.T S.L 𝓛).typed h _ was).0)) $
+          use0 𝓛 (raw ((Callee 𝓛).pre to)) (asked was) $ calls_at ! fm (Callee 𝓛) known to (and_then ! (load ! (from ! (stop !)) (look ! 10 refl)) (and_then ! (load ! (from ! (stop !)) (look ! 14 refl)) (and_then ! (load ! (from ! (stop !)) (look ! 12 refl)) (no_more !)))) (λ v.
           use1 𝓛 (later (some (λ (r : O.row.Denot). ((‵ ftrue) ⊛ ‵ (O.row.own_val r (v ∷ []))) ⊛ raw (Said r)))) (id⊢ 𝓤 _) $ await ! tt $ pick ! (λ r. split ! $ move ! (1 ∷ []) $ use1 𝓛 (some (λ (ws : Fins tt callee.params (yes, (yes, (yes, tt))) (h, (a₁, (a₂, tt)))). ‵ (lasts_of tt callee.params (yes, (yes, (yes, tt))) (h, (a₁, (a₂, tt))) ws) ⊛ raw (fact 𝓤 (r ≡ spec h a₁ a₂)))) (id⊢ 𝓤 _) $ pick ! (λ ws. split ! $ move ! (1 ∷ []) $ heard ! (r ≡ spec h a₁ a₂) (λ e. drop ! $ split ! $ drop ! $ peeks ! O.row (Is O.row) (shows 𝓛 O.row) r (v ∷ []) (λ is.
-          land ! (from ! (stop !)) (init ! 6 refl (typed_out r v is)) $ rewrite ! 6 (λ (u : Val). ‵ (fat full_share τO b₅ 0 u)) (ap only (O.tells r _ is)) refl $
-          assigns ! (of_opd ! (load ! (from ! (fld ! refl (stop !))) (look_in ! 6 (sub ! 1 refl (whole !))))) (from ! (hop ! (look ! 14 refl) (stop !))) (store_raw ! 2 refl ((LL.lawful S.T S.L 𝓛).typed (O.st r) _ (O.st_is r _ is)).0) $
-          assigns ! (of_opd ! (load ! (from ! (fld ! refl (stop !))) (look_in ! 6 (sub ! 0 refl (whole !))))) (from ! (stop !)) (init ! 16 refl (Ans.typed (O.ans r) (O.ans_is r _ is))) $
+          land ! (from ! (stop !)) (init ! 8 refl (typed_out r v is)) $ rewrite ! 8 (λ (u : Val). ‵ (fat full_share τO b₅ 0 u)) (ap only (O.tells r _ is)) refl $
+          assigns ! (of_opd ! (load ! (from ! (fld ! refl (stop !))) (look_in ! 8 (sub ! 1 refl (whole !))))) (from ! (stop !)) (init ! 6 refl (((LL.lawful S.T S.L 𝓛).typed (O.st r) _ (O.st_is r _ is)).0)) $
+          assigns ! (of_opd ! (load ! (from ! (stop !)) (look ! 6 refl))) (from ! (hop ! (look ! 16 refl) (stop !))) (store_raw ! 2 refl (((LL.lawful S.T S.L 𝓛).typed (O.st r) _ (O.st_is r _ is)).0)) $
+          assigns ! (of_opd ! (load ! (from ! (fld ! refl (stop !))) (look_in ! 8 (sub ! 0 refl (whole !))))) (from ! (stop !)) (init ! 18 refl (Ans.typed (O.ans r) (O.ans_is r _ is))) $
           drop ! $ drop ! $ owned ! (state_row S) (Is (state_row S)) (LL.makes S.T S.plain 𝓛) (O.st r) _ (O.st_is r _ is) $ move ! (1 ∷ 0 ∷ 2 ∷ 3 ∷ 4 ∷ []) $ closes ! tt (state_row S) (O.st r) (mach (O.st r) ∷ []) b o $
-          returns ! (look ! 13 refl) $ forget ! 13 refl $ forget ! 11 refl $ forget ! 9 refl $ forget ! 7 refl $ forget ! 5 refl $ forget ! 3 refl $
-          move ! (13 ∷ 14 ∷ []) $ free1 ! $ move ! (11 ∷ 12 ∷ []) $ free1 ! $ move ! (9 ∷ 10 ∷ []) $ free1 ! $ move ! (7 ∷ 8 ∷ []) $ free1 ! $ move ! (5 ∷ 6 ∷ []) $ free1 ! $ move ! (3 ∷ 4 ∷ []) $ free1 ! $ free0 ! $ keep ! (0 ∷ 1 ∷ 2 ∷ []) $ by ! (ends r (O.ans_is r _ is) e))))))))))))))
+          returns ! (look ! 15 refl) $ forget ! 15 refl $ forget ! 13 refl $ forget ! 11 refl $ forget ! 9 refl $ forget ! 7 refl $ forget ! 5 refl $ forget ! 3 refl $
+          move ! (15 ∷ 16 ∷ []) $ free1 ! $ move ! (13 ∷ 14 ∷ []) $ free1 ! $ move ! (11 ∷ 12 ∷ []) $ free1 ! $ move ! (9 ∷ 10 ∷ []) $ free1 ! $ move ! (7 ∷ 8 ∷ []) $ free1 ! $ move ! (5 ∷ 6 ∷ []) $ free1 ! $ move ! (3 ∷ 4 ∷ []) $ free1 ! $ free0 ! $ keep ! (0 ∷ 1 ∷ 2 ∷ []) $ by ! (ends r (O.ans_is r _ is) e)))))))))))))))
 
   walks : {M : Type 1} {𝓤 : Ura M} (𝓛 : Logic 𝓤) (C : Calls 𝓤 𝓛.H) (Λ : Loops 𝓤 𝓛.H) → FmC 𝓤 𝓛.H 𝓛.laws C → Triple 𝓤 (C key) (Callee 𝓛) → Walks 𝓛 ended stayed (WpFn 𝓤 𝓛.H C Λ function) (clauses 𝓛)
   walks {𝓤 = 𝓤} 𝓛 C Λ fm known = walked 𝓛 ended stayed (clauses 𝓛) (WpFn 𝓤 𝓛.H C Λ function) (λ κs. (mut_vals, ((λ y. A₁.val y ∷ []), ((λ y. A₂.val y ∷ []), tt)))) (λ κs. (mut_Tells (named 0) κs.0 (state_row S), (A₁.tells, (A₂.tells, tt))))

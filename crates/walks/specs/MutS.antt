@@ -3,8 +3,8 @@
 use Rattle.std.specs.Prelude.{◌≡◌, refl, ℕ, [], ◌∷◌, List, T as Holds, length}
 use Rattle.std.proofs.Common.{sym, ap, subst}
 use seplogic.Ra.Ura.{Ura}
-use seplogic.Ra.TreeShare.{full_share}
-use mir.Syntax.{Name, Ty, Fn, named, imm, mut, ty_ref, ty_struct, tnil, tcons, local, value_local, place, deref, field, copy, rv_opd, seq, assign, call, return}
+use base.Fraction.{full_share}
+use mir.Syntax.{Callee as Name, Ty, Fn, named, imm, mut, ty_ref, ty_struct, tnil, tcons, local, value_local, place, deref, field, copy, rv_opd, seq, assign, call, return}
 use mir.Val.{Val, vptr, WT, has_ty}
 use base.Logic.{SProp, ent, emp, via, fst∗, id⊢}
 use base.Fml.{GName, Lft, Share, ftrue, flft, fobs, fbor, fat}
@@ -25,7 +25,7 @@ use denote.Shadow.{makes_shadow}
 use denote.Laws.{Is, Makes, shows}
 use denote.Memory.{mem, pointee}
 use denote.Builtin.{RefMutOf, SliceRefOf}
-use denote.Ref.{Bor, MutRef, mut_vals, mut_Tells}
+use denote.Ref.{Bor, MutBor, MutRef, mut_vals, mut_Tells}
 use denote.Slice.{ShrSlice, slice_ty, slice_val, shr_slice_vals, shr_slice_Tells, shr_slice_Lawful, shr_slice_copy}
 use denote.Signature.{Signature, plain}
 use denote.Exit.{yes}
@@ -43,7 +43,7 @@ use denote.Triple.Table.{entered, cited}
 use denote.Triple.Walked.{says, Stays, stay_ref, stay_none_slice, walk_of, Goes-ref, Goes-none_slice, Walks, ends_at, walked, walk_Meets}
 use denote.Struct.Laws as LL
 use Rattle.common.specs.Promise.{Promise, by_value}
-use Rattle.walks.specs.Behind.{Arg, row_of, State, state_row, Out}
+use Rattle.walks.specs.Behind.{Arg, row_of, row_laws, State, state_row, Out}
 
 module _ (S : State) (A₁ : Arg) (Ans : Arg) (O : Out S Ans) (key : Name) (spec : S.T.D → List A₁.X → O.row.Denot) where
   abbrev τS : Ty
@@ -56,9 +56,11 @@ module _ (S : State) (A₁ : Arg) (Ans : Arg) (O : Out S Ans) (key : Name) (spec
   function = record {
     lifetimes = 2;
     outlives = [];
+    ty_params = [];
+    givens = 0;
     params = 2;
-    locals = local Ans.ty value_local ∷ local (ty_ref (named 0) mut (pointee (state_row S).written)) value_local ∷ local (slice_ty (ty_ref (named 1) imm A₁.ty)) value_local ∷ local τS value_local ∷ local τO value_local ∷ [];
-    body = seq (assign (place 3 []) (rv_opd (copy (place 1 (deref τS ∷ []))))) (seq (call key (copy (place 3 []) ∷ copy (place 2 []) ∷ []) (place 4 [])) (seq (assign (place 1 (deref τS ∷ [])) (rv_opd (copy (place 4 (field 1 ∷ []))))) (seq (assign (place 0 []) (rv_opd (copy (place 4 (field 0 ∷ []))))) return)));
+    locals = local Ans.ty value_local ∷ local (ty_ref (named 0) mut (pointee (state_row S).written)) value_local ∷ local (slice_ty (ty_ref (named 1) imm A₁.ty)) value_local ∷ local τS value_local ∷ local τO value_local ∷ local τS value_local ∷ [];
+    body = seq (assign (place 3 []) (rv_opd (copy (place 1 (deref τS ∷ []))))) (seq (call key (copy (place 3 []) ∷ copy (place 2 []) ∷ []) (place 4 [])) (seq (assign (place 5 []) (rv_opd (copy (place 4 (field 1 ∷ []))))) (seq (assign (place 1 (deref τS ∷ [])) (rv_opd (copy (place 5 [])))) (seq (assign (place 0 []) (rv_opd (copy (place 4 (field 0 ∷ []))))) return))));
   }
 
   abbrev pub callee : Signature
@@ -100,7 +102,7 @@ module _ (S : State) (A₁ : Arg) (Ans : Arg) (O : Out S Ans) (key : Name) (spec
     open 𝓛 use {H}
 
     abbrev Xs : Type 0
-    Xs = Bor S.T.D × (Bor (List A₁.X) × Unit {0})
+    Xs = MutBor S.T.D × (Bor (List A₁.X) × Unit {0})
 
     abbrev Vs : Type 0
     Vs = List Val × (List Val × Unit {0})
@@ -140,18 +142,19 @@ module _ (S : State) (A₁ : Arg) (Ans : Arg) (O : Out S Ans) (key : Name) (spec
       walk : ent 𝓤 (on_entry 𝓛 signature (κ, (κ₁, tt)) (q, (q₁, tt)) x at) (WpFn 𝓤 H C Λ function (vptr b o ∷ slice_val a₁.ref_ptr (length a₁.now) ∷ []) After)
       walk =
           qed 𝓛 ((‵ (flft κ q) ⊛ ‵ (flft κ₁ q₁) ⊛ ‵ ftrue) ∷ ‵ (owns (MutRef (named 0) κ (state_row S) ∷ ShrSlice (named 1) κ₁ (row_of A₁) ∷ []) x at) ∷ []) ∵ enter ! C Λ function (vptr b o ∷ slice_val a₁.ref_ptr (length a₁.now) ∷ []) _ $
-          alloc1 ! (λ b₀. alloc1 ! (λ b₁. alloc1 ! (λ b₂. alloc1 ! (λ b₃. alloc1 ! (λ b₄. alloc0 ! $ params1 ! $ pass1 ! (init ! 6 refl (tt, tt)) $ pass1 ! (init ! 4 refl ((shr_slice_Lawful 𝓛 (named 1) κ₁ (row_of A₁)).typed a₁ _ p₁).0) $ pass0 ! $
-          move ! (11 ∷ []) $ fsplit ! $ move ! (1 ∷ []) $ fsplit ! $ move ! (1 ∷ []) $ drop ! $ move ! (1 ∷ []) $ fsplit3 ! $ drop ! $ move ! (13 ∷ []) $ split ! $ move ! (1 ∷ []) $ split ! $ move ! (1 ∷ []) $ drop ! $
+          alloc1 ! (λ b₀. alloc1 ! (λ b₁. alloc1 ! (λ b₂. alloc1 ! (λ b₃. alloc1 ! (λ b₄. alloc1 ! (λ b₅. alloc0 ! $ params1 ! $ pass1 ! (init ! 8 refl (tt, tt)) $ pass1 ! (init ! 6 refl (((shr_slice_Lawful 𝓛 (named 1) κ₁ (row_of A₁)).typed a₁ _ p₁).0)) $ pass0 ! $
+          move ! (13 ∷ []) $ fsplit ! $ move ! (1 ∷ []) $ fsplit ! $ move ! (1 ∷ []) $ drop ! $ move ! (1 ∷ []) $ fsplit3 ! $ drop ! $ move ! (15 ∷ []) $ split ! $ move ! (1 ∷ []) $ split ! $ move ! (1 ∷ []) $ drop ! $
           move ! (2 ∷ 3 ∷ 1 ∷ []) $ opens ! tt (state_row S) {h = h} b o (λ vs. spelt ! (state_row S) (Is (state_row S)) (shows 𝓛 (state_row S)) (LL.vals S.T S.L) (LL.tells S.T S.L) full_share h vs b o $ move ! (1 ∷ []) $ peeks ! (state_row S) (Is (state_row S)) (shows 𝓛 (state_row S)) h (mach h ∷ []) (λ was.
-          assigns ! (of_opd ! (load ! (from ! (hop ! (look ! 13 refl) (stop !))) (look_raw ! 1 refl))) (from ! (stop !)) (init ! 9 refl ((LL.lawful S.T S.L 𝓛).typed h _ was).0) $
-          move ! (6 ∷ []) $ use1 𝓛 (‵ ((ShrSlice (named 1) κ₁ (row_of A₁)).own_val a₁ (slice_val a₁.ref_ptr (length a₁.now) ∷ [])) ⊛ ‵ ((ShrSlice (named 1) κ₁ (row_of A₁)).own_val a₁ (slice_val a₁.ref_ptr (length a₁.now) ∷ []))) ((shr_slice_copy 𝓛 (named 1) κ₁ (row_of A₁)).twice a₁ (slice_val a₁.ref_ptr (length a₁.now) ∷ [])) $ split ! $ move ! (7 ∷ 0 ∷ []) $ join ! $ use1 𝓛 (raw ((Callee 𝓛).pre to)) (asked was) $ calls_at ! fm (Callee 𝓛) known to (and_then ! (load ! (from ! (stop !)) (look ! 9 refl)) (and_then ! (load ! (from ! (stop !)) (look ! 11 refl)) (no_more !))) (λ v.
+          assigns ! (of_opd ! (load ! (from ! (hop ! (look ! 15 refl) (stop !))) (look_raw ! 1 refl))) (from ! (stop !)) (init ! 11 refl (((LL.lawful S.T S.L 𝓛).typed h _ was).0)) $
+          move ! (6 ∷ []) $ use1 𝓛 (‵ ((ShrSlice (named 1) κ₁ (row_of A₁)).own_val a₁ (slice_val a₁.ref_ptr (length a₁.now) ∷ [])) ⊛ ‵ ((ShrSlice (named 1) κ₁ (row_of A₁)).own_val a₁ (slice_val a₁.ref_ptr (length a₁.now) ∷ []))) ((shr_slice_copy 𝓛 (named 1) κ₁ (row_of A₁) (row_laws A₁)).twice a₁ (slice_val a₁.ref_ptr (length a₁.now) ∷ [])) $ split ! $ move ! (7 ∷ 0 ∷ []) $ join ! $ use1 𝓛 (raw ((Callee 𝓛).pre to)) (asked was) $ calls_at ! fm (Callee 𝓛) known to (and_then ! (load ! (from ! (stop !)) (look ! 11 refl)) (and_then ! (load ! (from ! (stop !)) (look ! 13 refl)) (no_more !))) (λ v.
           use1 𝓛 (later (some (λ (r : O.row.Denot). ((‵ (flft κ₁ q₁) ⊛ ‵ ftrue) ⊛ ‵ (O.row.own_val r (v ∷ []))) ⊛ raw (Said r)))) (id⊢ 𝓤 _) $ await ! tt $ pick ! (λ r. split ! $ move ! (1 ∷ []) $ use1 𝓛 (some (λ (ws : Fins (κ₁, tt) callee.params (yes, (yes, tt)) (h, (a₁, tt))). ‵ (lasts_of (κ₁, tt) callee.params (yes, (yes, tt)) (h, (a₁, tt)) ws) ⊛ raw (fact 𝓤 (r ≡ spec h a₁.now)))) (id⊢ 𝓤 _) $ pick ! (λ ws. split ! $ move ! (1 ∷ []) $ heard ! (r ≡ spec h a₁.now) (λ e. drop ! $ split ! $ split ! $ move ! (1 ∷ []) $ drop ! $ move ! (1 ∷ []) $ peeks ! O.row (Is O.row) (shows 𝓛 O.row) r (v ∷ []) (λ is.
-          land ! (from ! (stop !)) (init ! 8 refl (typed_out r v is)) $ rewrite ! 8 (λ (u : Val). ‵ (fat full_share τO b₄ 0 u)) (ap only (O.tells r _ is)) refl $
-          assigns ! (of_opd ! (load ! (from ! (fld ! refl (stop !))) (look_in ! 8 (sub ! 1 refl (whole !))))) (from ! (hop ! (look ! 14 refl) (stop !))) (store_raw ! 4 refl ((LL.lawful S.T S.L 𝓛).typed (O.st r) _ (O.st_is r _ is)).0) $
-          assigns ! (of_opd ! (load ! (from ! (fld ! refl (stop !))) (look_in ! 8 (sub ! 0 refl (whole !))))) (from ! (stop !)) (init ! 16 refl (Ans.typed (O.ans r) (O.ans_is r _ is))) $
+          land ! (from ! (stop !)) (init ! 10 refl (typed_out r v is)) $ rewrite ! 10 (λ (u : Val). ‵ (fat full_share τO b₄ 0 u)) (ap only (O.tells r _ is)) refl $
+          assigns ! (of_opd ! (load ! (from ! (fld ! refl (stop !))) (look_in ! 10 (sub ! 1 refl (whole !))))) (from ! (stop !)) (init ! 8 refl (((LL.lawful S.T S.L 𝓛).typed (O.st r) _ (O.st_is r _ is)).0)) $
+          assigns ! (of_opd ! (load ! (from ! (stop !)) (look ! 8 refl))) (from ! (hop ! (look ! 16 refl) (stop !))) (store_raw ! 4 refl (((LL.lawful S.T S.L 𝓛).typed (O.st r) _ (O.st_is r _ is)).0)) $
+          assigns ! (of_opd ! (load ! (from ! (fld ! refl (stop !))) (look_in ! 10 (sub ! 0 refl (whole !))))) (from ! (stop !)) (init ! 18 refl (Ans.typed (O.ans r) (O.ans_is r _ is))) $
           drop ! $ move ! (2 ∷ []) $ drop ! $ owned ! (state_row S) (Is (state_row S)) (LL.makes S.T S.plain 𝓛) (O.st r) _ (O.st_is r _ is) $ move ! (3 ∷ 0 ∷ 4 ∷ 5 ∷ 6 ∷ []) $ closes ! tt (state_row S) (O.st r) (mach (O.st r) ∷ []) b o $
-          returns ! (look ! 13 refl) $ forget ! 13 refl $ forget ! 11 refl $ forget ! 9 refl $ forget ! 7 refl $ forget ! 5 refl $
-          move ! (13 ∷ 14 ∷ []) $ free1 ! $ move ! (11 ∷ 12 ∷ []) $ free1 ! $ move ! (9 ∷ 10 ∷ []) $ free1 ! $ move ! (7 ∷ 8 ∷ []) $ free1 ! $ move ! (5 ∷ 6 ∷ []) $ free1 ! $ free0 ! $ keep ! (0 ∷ 1 ∷ 2 ∷ 3 ∷ 4 ∷ []) $ by ! (ends r (O.ans_is r _ is) e)))))))))))))
+          returns ! (look ! 15 refl) $ forget ! 15 refl $ forget ! 13 refl $ forget ! 11 refl $ forget ! 9 refl $ forget ! 7 refl $ forget ! 5 refl $
+          move ! (15 ∷ 16 ∷ []) $ free1 ! $ move ! (13 ∷ 14 ∷ []) $ free1 ! $ move ! (11 ∷ 12 ∷ []) $ free1 ! $ move ! (9 ∷ 10 ∷ []) $ free1 ! $ move ! (7 ∷ 8 ∷ []) $ free1 ! $ move ! (5 ∷ 6 ∷ []) $ free1 ! $ free0 ! $ keep ! (0 ∷ 1 ∷ 2 ∷ 3 ∷ 4 ∷ []) $ by ! (ends r (O.ans_is r _ is) e))))))))))))))
 
   walks : {M : Type 1} {𝓤 : Ura M} (𝓛 : Logic 𝓤) (C : Calls 𝓤 𝓛.H) (Λ : Loops 𝓤 𝓛.H) → FmC 𝓤 𝓛.H 𝓛.laws C → Triple 𝓤 (C key) (Callee 𝓛) → Walks 𝓛 ended stayed (WpFn 𝓤 𝓛.H C Λ function) (clauses 𝓛)
   walks {𝓤 = 𝓤} 𝓛 C Λ fm known = walked 𝓛 ended stayed (clauses 𝓛) (WpFn 𝓤 𝓛.H C Λ function) (λ κs. (mut_vals, (shr_slice_vals, tt))) (λ κs. (mut_Tells (named 0) κs.0 (state_row S), (shr_slice_Tells (named 1) κs.1.0 (row_of A₁), tt)))

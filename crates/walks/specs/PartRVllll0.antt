@@ -1,12 +1,10 @@
 -- `fn f(t: &mut S) -> Ans`, where S has 5 fields, of which one goes by value to the callee and 4 are lent to it, of the form of tools/part.py, which wrote this file: it meets the contract that says the callee's of what lies behind the reference.
 -- For all types: `Behind.antt` has what is asked of them. Assumes nothing.
-use Rattle.std.specs.Prelude.{◌≡◌, refl, ℕ, zero, ◌+◌, T as Holds}
-use Rattle.std.proofs.Common.{sym, ap, ◌∙◌}
-use Rattle.std.proofs.Math.Path.{subst}
-use mathlib.Core.List.{[], ◌∷◌, List}
+use Rattle.std.specs.Prelude.{◌≡◌, refl, ℕ, zero, ◌+◌, [], ◌∷◌, List, T as Holds}
+use Rattle.std.proofs.Common.{sym, ap, subst, ◌∙◌}
 use seplogic.Ra.Ura.{Ura}
-use seplogic.Ra.TreeShare.{full_share}
-use mir.Syntax.{Sym, Name, Ty, Fn, named, erased, mut, ty_ref, ty_struct, tnil, tcons, local, value_local, place, deref, field, copy, rv_opd, addr_of, seq, assign, call, return}
+use base.Fraction.{full_share}
+use mir.Syntax.{Sym, Callee as Name, Ty, Fn, named, erased, mut, ty_ref, ty_struct, tnil, tcons, local, value_local, place, deref, field, copy, rv_opd, addr_of, seq, assign, call, return}
 use mir.Val.{Val, vptr, WT, has_ty}
 use base.Logic.{SProp, ent, sep, ex, wand, emp, via, fst∗, id⊢, all_e, apply∗, ex_i}
 use base.Fml.{GName, Lft, Share, Fml, ftrue, flft, flent, fobs, fbor, fat}
@@ -80,9 +78,11 @@ module _ (S₀ : State) (ν : Sym) (m₁ m₂ m₃ m₄ : Member) (D : Type 0) (
   function = record {
     lifetimes = 1;
     outlives = [];
+    ty_params = [];
+    givens = 0;
     params = 1;
-    locals = local Ans.ty value_local ∷ local (ty_ref (named 0) mut (pointee Row.written)) value_local ∷ local τV value_local ∷ local τO value_local ∷ local (ty_ref erased mut (pointee m₁.row.written)) value_local ∷ local (ty_ref erased mut (pointee m₂.row.written)) value_local ∷ local (ty_ref erased mut (pointee m₃.row.written)) value_local ∷ local (ty_ref erased mut (pointee m₄.row.written)) value_local ∷ [];
-    body = seq (assign (place 2 []) (rv_opd (copy (place 1 (deref τS ∷ field 0 ∷ []))))) (seq (assign (place 4 []) (addr_of (place 1 (deref τS ∷ field 1 ∷ [])))) (seq (assign (place 5 []) (addr_of (place 1 (deref τS ∷ field 2 ∷ [])))) (seq (assign (place 6 []) (addr_of (place 1 (deref τS ∷ field 3 ∷ [])))) (seq (assign (place 7 []) (addr_of (place 1 (deref τS ∷ field 4 ∷ [])))) (seq (call key (copy (place 2 []) ∷ copy (place 4 []) ∷ copy (place 5 []) ∷ copy (place 6 []) ∷ copy (place 7 []) ∷ []) (place 3 [])) (seq (assign (place 1 (deref τS ∷ field 0 ∷ [])) (rv_opd (copy (place 3 (field 1 ∷ []))))) (seq (assign (place 0 []) (rv_opd (copy (place 3 (field 0 ∷ []))))) return)))))));
+    locals = local Ans.ty value_local ∷ local (ty_ref (named 0) mut (pointee Row.written)) value_local ∷ local τV value_local ∷ local τO value_local ∷ local (ty_ref erased mut (pointee m₁.row.written)) value_local ∷ local (ty_ref erased mut (pointee m₂.row.written)) value_local ∷ local (ty_ref erased mut (pointee m₃.row.written)) value_local ∷ local (ty_ref erased mut (pointee m₄.row.written)) value_local ∷ local τV value_local ∷ [];
+    body = seq (assign (place 2 []) (rv_opd (copy (place 1 (deref τS ∷ field 0 ∷ []))))) (seq (assign (place 4 []) (addr_of (place 1 (deref τS ∷ field 1 ∷ [])))) (seq (assign (place 5 []) (addr_of (place 1 (deref τS ∷ field 2 ∷ [])))) (seq (assign (place 6 []) (addr_of (place 1 (deref τS ∷ field 3 ∷ [])))) (seq (assign (place 7 []) (addr_of (place 1 (deref τS ∷ field 4 ∷ [])))) (seq (call key (copy (place 2 []) ∷ copy (place 4 []) ∷ copy (place 5 []) ∷ copy (place 6 []) ∷ copy (place 7 []) ∷ []) (place 3 [])) (seq (assign (place 8 []) (rv_opd (copy (place 3 (field 1 ∷ []))))) (seq (assign (place 1 (deref τS ∷ field 0 ∷ [])) (rv_opd (copy (place 8 [])))) (seq (assign (place 0 []) (rv_opd (copy (place 3 (field 0 ∷ []))))) return))))))));
   }
 
   abbrev pub callee : Signature
@@ -189,45 +189,45 @@ module _ (S₀ : State) (ν : Sym) (m₁ m₂ m₃ m₄ : Member) (D : Type 0) (
         (as_fields (Ans.ty ∷ τV ∷ []) (Ans.val (O.ans r) ∷ mach (O.st r) ∷ []) (Ans.typed (O.ans r) (O.ans_is r _ is), (((LL.lawful S₀.T S₀.L 𝓛).typed (O.st r) _ (O.st_is r _ is)).0, tt)))
 
     -- the head in memory is its cell with what it owns, and back
-    opened : ent 𝓤 (sem 𝓛 (part_at (member_row (state_member S₀)) full_share (to h).0 b at₀)) (ex 𝓤 (λ (vs : List Val). sep 𝓤 (sem 𝓛 (cell_at full_share (state_row S₀).mir vs b at₀)) (sem 𝓛 ((state_row S₀).own (hd h) vs))))
+    opened : ent 𝓤 (sem 𝓛 (part_at (member_row (state_member S₀)) full_share (to h).0 b at₀)) (ex 𝓤 (λ (vs : List Val). sep 𝓤 (sem 𝓛 (cell_at full_share (state_row S₀).mir vs b at₀)) (sem 𝓛 ((state_row S₀).own_val (hd h) vs))))
     unfolding part_of
-    opened = subst (λ (u : (member_row (state_member S₀)).Denot). ent 𝓤 (sem 𝓛 (part_at (member_row (state_member S₀)) full_share u b at₀)) (ex 𝓤 (λ (vs : List Val). sep 𝓤 (sem 𝓛 (cell_at full_share (state_row S₀).mir vs b at₀)) (sem 𝓛 ((state_row S₀).own (hd h) vs))))) (sym (hd_is h)) (id⊢ 𝓤 _)
+    opened = subst (λ (u : (member_row (state_member S₀)).Denot). ent 𝓤 (sem 𝓛 (part_at (member_row (state_member S₀)) full_share u b at₀)) (ex 𝓤 (λ (vs : List Val). sep 𝓤 (sem 𝓛 (cell_at full_share (state_row S₀).mir vs b at₀)) (sem 𝓛 ((state_row S₀).own_val (hd h) vs))))) (sym (hd_is h)) (id⊢ 𝓤 _)
 
-    shut : (d : S₀.T.D) (vs : List Val) → ent 𝓤 (sep 𝓤 (sem 𝓛 (cell_at full_share (state_row S₀).mir vs b at₀)) (sem 𝓛 ((state_row S₀).own d vs))) (sem 𝓛 (part_at (member_row (state_member S₀)) full_share (S₀.T.to d) b at₀))
+    shut : (d : S₀.T.D) (vs : List Val) → ent 𝓤 (sep 𝓤 (sem 𝓛 (cell_at full_share (state_row S₀).mir vs b at₀)) (sem 𝓛 ((state_row S₀).own_val d vs))) (sem 𝓛 (part_at (member_row (state_member S₀)) full_share (S₀.T.to d) b at₀))
     unfolding part_of
-    shut d vs = ex_i 𝓤 (λ (us : List Val). sep 𝓤 (sem 𝓛 (cell_at full_share (state_row S₀).mir us b at₀)) (sem 𝓛 ((state_row S₀).own d us))) vs
+    shut d vs = ex_i 𝓤 (λ (us : List Val). sep 𝓤 (sem 𝓛 (cell_at full_share (state_row S₀).mir us b at₀)) (sem 𝓛 ((state_row S₀).own_val d us))) vs
 
-    opened₁ : ent 𝓤 (sem 𝓛 (part_at (member_row m₁) full_share (to h).1.0 b at₁)) (ex 𝓤 (λ (vs : List Val). sep 𝓤 (sem 𝓛 (cell_at full_share (member_row m₁).mir vs b at₁)) (sem 𝓛 ((member_row m₁).own (to h).1.0 vs))))
+    opened₁ : ent 𝓤 (sem 𝓛 (part_at (member_row m₁) full_share (to h).1.0 b at₁)) (ex 𝓤 (λ (vs : List Val). sep 𝓤 (sem 𝓛 (cell_at full_share (member_row m₁).mir vs b at₁)) (sem 𝓛 ((member_row m₁).own_val (to h).1.0 vs))))
     unfolding part_of
     opened₁ = id⊢ 𝓤 _
 
-    shut₁ : (vs : List Val) → ent 𝓤 (sep 𝓤 (sem 𝓛 (cell_at full_share (member_row m₁).mir vs b at₁)) (sem 𝓛 ((member_row m₁).own (to h).1.0 vs))) (sem 𝓛 (part_at (member_row m₁) full_share (to h).1.0 b at₁))
+    shut₁ : (vs : List Val) → ent 𝓤 (sep 𝓤 (sem 𝓛 (cell_at full_share (member_row m₁).mir vs b at₁)) (sem 𝓛 ((member_row m₁).own_val (to h).1.0 vs))) (sem 𝓛 (part_at (member_row m₁) full_share (to h).1.0 b at₁))
     unfolding part_of
-    shut₁ vs = ex_i 𝓤 (λ (us : List Val). sep 𝓤 (sem 𝓛 (cell_at full_share (member_row m₁).mir us b at₁)) (sem 𝓛 ((member_row m₁).own (to h).1.0 us))) vs
+    shut₁ vs = ex_i 𝓤 (λ (us : List Val). sep 𝓤 (sem 𝓛 (cell_at full_share (member_row m₁).mir us b at₁)) (sem 𝓛 ((member_row m₁).own_val (to h).1.0 us))) vs
 
-    opened₂ : ent 𝓤 (sem 𝓛 (part_at (member_row m₂) full_share (to h).1.1.0 b at₂)) (ex 𝓤 (λ (vs : List Val). sep 𝓤 (sem 𝓛 (cell_at full_share (member_row m₂).mir vs b at₂)) (sem 𝓛 ((member_row m₂).own (to h).1.1.0 vs))))
+    opened₂ : ent 𝓤 (sem 𝓛 (part_at (member_row m₂) full_share (to h).1.1.0 b at₂)) (ex 𝓤 (λ (vs : List Val). sep 𝓤 (sem 𝓛 (cell_at full_share (member_row m₂).mir vs b at₂)) (sem 𝓛 ((member_row m₂).own_val (to h).1.1.0 vs))))
     unfolding part_of
     opened₂ = id⊢ 𝓤 _
 
-    shut₂ : (vs : List Val) → ent 𝓤 (sep 𝓤 (sem 𝓛 (cell_at full_share (member_row m₂).mir vs b at₂)) (sem 𝓛 ((member_row m₂).own (to h).1.1.0 vs))) (sem 𝓛 (part_at (member_row m₂) full_share (to h).1.1.0 b at₂))
+    shut₂ : (vs : List Val) → ent 𝓤 (sep 𝓤 (sem 𝓛 (cell_at full_share (member_row m₂).mir vs b at₂)) (sem 𝓛 ((member_row m₂).own_val (to h).1.1.0 vs))) (sem 𝓛 (part_at (member_row m₂) full_share (to h).1.1.0 b at₂))
     unfolding part_of
-    shut₂ vs = ex_i 𝓤 (λ (us : List Val). sep 𝓤 (sem 𝓛 (cell_at full_share (member_row m₂).mir us b at₂)) (sem 𝓛 ((member_row m₂).own (to h).1.1.0 us))) vs
+    shut₂ vs = ex_i 𝓤 (λ (us : List Val). sep 𝓤 (sem 𝓛 (cell_at full_share (member_row m₂).mir us b at₂)) (sem 𝓛 ((member_row m₂).own_val (to h).1.1.0 us))) vs
 
-    opened₃ : ent 𝓤 (sem 𝓛 (part_at (member_row m₃) full_share (to h).1.1.1.0 b at₃)) (ex 𝓤 (λ (vs : List Val). sep 𝓤 (sem 𝓛 (cell_at full_share (member_row m₃).mir vs b at₃)) (sem 𝓛 ((member_row m₃).own (to h).1.1.1.0 vs))))
+    opened₃ : ent 𝓤 (sem 𝓛 (part_at (member_row m₃) full_share (to h).1.1.1.0 b at₃)) (ex 𝓤 (λ (vs : List Val). sep 𝓤 (sem 𝓛 (cell_at full_share (member_row m₃).mir vs b at₃)) (sem 𝓛 ((member_row m₃).own_val (to h).1.1.1.0 vs))))
     unfolding part_of
     opened₃ = id⊢ 𝓤 _
 
-    shut₃ : (vs : List Val) → ent 𝓤 (sep 𝓤 (sem 𝓛 (cell_at full_share (member_row m₃).mir vs b at₃)) (sem 𝓛 ((member_row m₃).own (to h).1.1.1.0 vs))) (sem 𝓛 (part_at (member_row m₃) full_share (to h).1.1.1.0 b at₃))
+    shut₃ : (vs : List Val) → ent 𝓤 (sep 𝓤 (sem 𝓛 (cell_at full_share (member_row m₃).mir vs b at₃)) (sem 𝓛 ((member_row m₃).own_val (to h).1.1.1.0 vs))) (sem 𝓛 (part_at (member_row m₃) full_share (to h).1.1.1.0 b at₃))
     unfolding part_of
-    shut₃ vs = ex_i 𝓤 (λ (us : List Val). sep 𝓤 (sem 𝓛 (cell_at full_share (member_row m₃).mir us b at₃)) (sem 𝓛 ((member_row m₃).own (to h).1.1.1.0 us))) vs
+    shut₃ vs = ex_i 𝓤 (λ (us : List Val). sep 𝓤 (sem 𝓛 (cell_at full_share (member_row m₃).mir us b at₃)) (sem 𝓛 ((member_row m₃).own_val (to h).1.1.1.0 us))) vs
 
-    opened₄ : ent 𝓤 (sem 𝓛 (part_at (member_row m₄) full_share (to h).1.1.1.1.0 b at₄)) (ex 𝓤 (λ (vs : List Val). sep 𝓤 (sem 𝓛 (cell_at full_share (member_row m₄).mir vs b at₄)) (sem 𝓛 ((member_row m₄).own (to h).1.1.1.1.0 vs))))
+    opened₄ : ent 𝓤 (sem 𝓛 (part_at (member_row m₄) full_share (to h).1.1.1.1.0 b at₄)) (ex 𝓤 (λ (vs : List Val). sep 𝓤 (sem 𝓛 (cell_at full_share (member_row m₄).mir vs b at₄)) (sem 𝓛 ((member_row m₄).own_val (to h).1.1.1.1.0 vs))))
     unfolding part_of
     opened₄ = id⊢ 𝓤 _
 
-    shut₄ : (vs : List Val) → ent 𝓤 (sep 𝓤 (sem 𝓛 (cell_at full_share (member_row m₄).mir vs b at₄)) (sem 𝓛 ((member_row m₄).own (to h).1.1.1.1.0 vs))) (sem 𝓛 (part_at (member_row m₄) full_share (to h).1.1.1.1.0 b at₄))
+    shut₄ : (vs : List Val) → ent 𝓤 (sep 𝓤 (sem 𝓛 (cell_at full_share (member_row m₄).mir vs b at₄)) (sem 𝓛 ((member_row m₄).own_val (to h).1.1.1.1.0 vs))) (sem 𝓛 (part_at (member_row m₄) full_share (to h).1.1.1.1.0 b at₄))
     unfolding part_of
-    shut₄ vs = ex_i 𝓤 (λ (us : List Val). sep 𝓤 (sem 𝓛 (cell_at full_share (member_row m₄).mir us b at₄)) (sem 𝓛 ((member_row m₄).own (to h).1.1.1.1.0 us))) vs
+    shut₄ vs = ex_i 𝓤 (λ (us : List Val). sep 𝓤 (sem 𝓛 (cell_at full_share (member_row m₄).mir us b at₄)) (sem 𝓛 ((member_row m₄).own_val (to h).1.1.1.1.0 us))) vs
 
     -- the struct in memory is its fields in memory, and back
     apart : ent 𝓤 (sem 𝓛 (part_at Row full_share h b o)) (sep 𝓤 (sem 𝓛 (parts_at full_share ((state_member S₀) ∷ m₁ ∷ m₂ ∷ m₃ ∷ m₄ ∷ []) zero (to h) b o)) (PartsBack 𝓛 full_share ν ((state_member S₀) ∷ m₁ ∷ m₂ ∷ m₃ ∷ m₄ ∷ []) b o))
@@ -247,36 +247,37 @@ module _ (S₀ : State) (ν : Sym) (m₁ m₂ m₃ m₄ : Member) (D : Type 0) (
       walk : ent 𝓤 (on_entry 𝓛 signature (κ, tt) (q, tt) x at) (WpFn 𝓤 H C Λ function (vptr b o ∷ []) After)
       walk =
           qed 𝓛 ((‵ (flft κ q) ⊛ ‵ ftrue) ∷ ‵ (owns (MutRef (named 0) κ Row ∷ []) x at) ∷ []) ∵ enter ! C Λ function (vptr b o ∷ []) _ $
-          alloc1 ! (λ b₀. alloc1 ! (λ b₁. alloc1 ! (λ b₂. alloc1 ! (λ b₃. alloc1 ! (λ b₄. alloc1 ! (λ b₅. alloc1 ! (λ b₆. alloc1 ! (λ b₇. alloc0 ! $ params1 ! $ pass1 ! (init ! 12 refl (tt, tt)) $ pass0 ! $
-          move ! (17 ∷ []) $ fsplit ! $ move ! (1 ∷ []) $ drop ! $ fsplit3 ! $ drop ! $ move ! (18 ∷ []) $ split ! $ move ! (1 ∷ []) $ drop ! $
+          alloc1 ! (λ b₀. alloc1 ! (λ b₁. alloc1 ! (λ b₂. alloc1 ! (λ b₃. alloc1 ! (λ b₄. alloc1 ! (λ b₅. alloc1 ! (λ b₆. alloc1 ! (λ b₇. alloc1 ! (λ b₈. alloc0 ! $ params1 ! $ pass1 ! (init ! 14 refl (tt, tt)) $ pass0 ! $
+          move ! (19 ∷ []) $ fsplit ! $ move ! (1 ∷ []) $ drop ! $ fsplit3 ! $ drop ! $ move ! (20 ∷ []) $ split ! $ move ! (1 ∷ []) $ drop ! $
           move ! (1 ∷ 2 ∷ 0 ∷ []) $ open_ref ! tt (mem Row) {x = h} {b = b} {o = o} $ use1 𝓛 (‵ (parts_at full_share ((state_member S₀) ∷ m₁ ∷ m₂ ∷ m₃ ∷ m₄ ∷ []) zero (to h) b o) ⊛ raw (PartsBack 𝓛 full_share ν ((state_member S₀) ∷ m₁ ∷ m₂ ∷ m₃ ∷ m₄ ∷ []) b o)) apart $ split ! $ fsplit ! $ move ! (1 ∷ []) $ fsplit ! $ move ! (1 ∷ []) $ fsplit ! $ move ! (1 ∷ []) $ fsplit ! $ move ! (1 ∷ []) $ fsplit ! $ move ! (1 ∷ []) $ drop ! $
-          move ! (4 ∷ []) $ use1 𝓛 (some (λ (vs : List Val). ‵ (cell_at full_share (state_row S₀).mir vs b at₀) ⊛ ‵ ((state_row S₀).own (hd h) vs))) opened $ pick ! (λ vs. split ! $ spelt ! (state_row S₀) (Is (state_row S₀)) (shows 𝓛 (state_row S₀)) (LL.vals S₀.T S₀.L) (LL.tells S₀.T S₀.L) full_share (hd h) vs b at₀ $ move ! (1 ∷ []) $ peeks ! (state_row S₀) (Is (state_row S₀)) (shows 𝓛 (state_row S₀)) (hd h) (mach (hd h) ∷ []) (λ was.
-          assigns ! (of_opd ! (load ! (from ! (hop ! (look ! 22 refl) (fld ! refl (stop !)))) (look_raw ! 1 refl))) (from ! (stop !)) (init ! 20 refl ((LL.lawful S₀.T S₀.L 𝓛).typed (hd h) _ was).0) $
-          assigns ! (addr ! (from ! (hop ! (look ! 22 refl) (fld ! refl (stop !))))) (from ! (stop !)) (init ! 16 refl (tt, tt)) $
-          assigns ! (addr ! (from ! (hop ! (look ! 22 refl) (fld ! refl (stop !))))) (from ! (stop !)) (init ! 14 refl (tt, tt)) $
-          assigns ! (addr ! (from ! (hop ! (look ! 22 refl) (fld ! refl (stop !))))) (from ! (stop !)) (init ! 12 refl (tt, tt)) $
-          assigns ! (addr ! (from ! (hop ! (look ! 22 refl) (fld ! refl (stop !))))) (from ! (stop !)) (init ! 10 refl (tt, tt)) $
-          move ! (5 ∷ []) $ use1 𝓛 (some (λ (vs₁ : List Val). ‵ (cell_at full_share (member_row m₁).mir vs₁ b at₁) ⊛ ‵ ((member_row m₁).own (to h).1.0 vs₁))) opened₁ $ pick ! (λ vs₁. split ! $ move ! (1 ∷ []) $ peeks ! (member_row m₁) (Is (member_row m₁)) (shows 𝓛 (member_row m₁)) (to h).1.0 vs₁ (λ is₁. move ! (1 ∷ 0 ∷ []) $ use2 𝓛 (‵ (part_at (member_row m₁) full_share (to h).1.0 b at₁)) (shut₁ vs₁) $
-          move ! (5 ∷ []) $ use1 𝓛 (some (λ (vs₂ : List Val). ‵ (cell_at full_share (member_row m₂).mir vs₂ b at₂) ⊛ ‵ ((member_row m₂).own (to h).1.1.0 vs₂))) opened₂ $ pick ! (λ vs₂. split ! $ move ! (1 ∷ []) $ peeks ! (member_row m₂) (Is (member_row m₂)) (shows 𝓛 (member_row m₂)) (to h).1.1.0 vs₂ (λ is₂. move ! (1 ∷ 0 ∷ []) $ use2 𝓛 (‵ (part_at (member_row m₂) full_share (to h).1.1.0 b at₂)) (shut₂ vs₂) $
-          move ! (5 ∷ []) $ use1 𝓛 (some (λ (vs₃ : List Val). ‵ (cell_at full_share (member_row m₃).mir vs₃ b at₃) ⊛ ‵ ((member_row m₃).own (to h).1.1.1.0 vs₃))) opened₃ $ pick ! (λ vs₃. split ! $ move ! (1 ∷ []) $ peeks ! (member_row m₃) (Is (member_row m₃)) (shows 𝓛 (member_row m₃)) (to h).1.1.1.0 vs₃ (λ is₃. move ! (1 ∷ 0 ∷ []) $ use2 𝓛 (‵ (part_at (member_row m₃) full_share (to h).1.1.1.0 b at₃)) (shut₃ vs₃) $
-          move ! (5 ∷ []) $ use1 𝓛 (some (λ (vs₄ : List Val). ‵ (cell_at full_share (member_row m₄).mir vs₄ b at₄) ⊛ ‵ ((member_row m₄).own (to h).1.1.1.1.0 vs₄))) opened₄ $ pick ! (λ vs₄. split ! $ move ! (1 ∷ []) $ peeks ! (member_row m₄) (Is (member_row m₄)) (shows 𝓛 (member_row m₄)) (to h).1.1.1.1.0 vs₄ (λ is₄. move ! (1 ∷ 0 ∷ []) $ use2 𝓛 (‵ (part_at (member_row m₄) full_share (to h).1.1.1.1.0 b at₄)) (shut₄ vs₄) $
+          move ! (4 ∷ []) $ use1 𝓛 (some (λ (vs : List Val). ‵ (cell_at full_share (state_row S₀).mir vs b at₀) ⊛ ‵ ((state_row S₀).own_val (hd h) vs))) opened $ pick ! (λ vs. split ! $ spelt ! (state_row S₀) (Is (state_row S₀)) (shows 𝓛 (state_row S₀)) (LL.vals S₀.T S₀.L) (LL.tells S₀.T S₀.L) full_share (hd h) vs b at₀ $ move ! (1 ∷ []) $ peeks ! (state_row S₀) (Is (state_row S₀)) (shows 𝓛 (state_row S₀)) (hd h) (mach (hd h) ∷ []) (λ was.
+          assigns ! (of_opd ! (load ! (from ! (hop ! (look ! 24 refl) (fld ! refl (stop !)))) (look_raw ! 1 refl))) (from ! (stop !)) (init ! 22 refl (((LL.lawful S₀.T S₀.L 𝓛).typed (hd h) _ was).0)) $
+          assigns ! (addr ! (from ! (hop ! (look ! 24 refl) (fld ! refl (stop !))))) (from ! (stop !)) (init ! 18 refl (tt, tt)) $
+          assigns ! (addr ! (from ! (hop ! (look ! 24 refl) (fld ! refl (stop !))))) (from ! (stop !)) (init ! 16 refl (tt, tt)) $
+          assigns ! (addr ! (from ! (hop ! (look ! 24 refl) (fld ! refl (stop !))))) (from ! (stop !)) (init ! 14 refl (tt, tt)) $
+          assigns ! (addr ! (from ! (hop ! (look ! 24 refl) (fld ! refl (stop !))))) (from ! (stop !)) (init ! 12 refl (tt, tt)) $
+          move ! (5 ∷ []) $ use1 𝓛 (some (λ (vs₁ : List Val). ‵ (cell_at full_share (member_row m₁).mir vs₁ b at₁) ⊛ ‵ ((member_row m₁).own_val (to h).1.0 vs₁))) opened₁ $ pick ! (λ vs₁. split ! $ move ! (1 ∷ []) $ peeks ! (member_row m₁) (Is (member_row m₁)) (shows 𝓛 (member_row m₁)) (to h).1.0 vs₁ (λ is₁. move ! (1 ∷ 0 ∷ []) $ use2 𝓛 (‵ (part_at (member_row m₁) full_share (to h).1.0 b at₁)) (shut₁ vs₁) $
+          move ! (5 ∷ []) $ use1 𝓛 (some (λ (vs₂ : List Val). ‵ (cell_at full_share (member_row m₂).mir vs₂ b at₂) ⊛ ‵ ((member_row m₂).own_val (to h).1.1.0 vs₂))) opened₂ $ pick ! (λ vs₂. split ! $ move ! (1 ∷ []) $ peeks ! (member_row m₂) (Is (member_row m₂)) (shows 𝓛 (member_row m₂)) (to h).1.1.0 vs₂ (λ is₂. move ! (1 ∷ 0 ∷ []) $ use2 𝓛 (‵ (part_at (member_row m₂) full_share (to h).1.1.0 b at₂)) (shut₂ vs₂) $
+          move ! (5 ∷ []) $ use1 𝓛 (some (λ (vs₃ : List Val). ‵ (cell_at full_share (member_row m₃).mir vs₃ b at₃) ⊛ ‵ ((member_row m₃).own_val (to h).1.1.1.0 vs₃))) opened₃ $ pick ! (λ vs₃. split ! $ move ! (1 ∷ []) $ peeks ! (member_row m₃) (Is (member_row m₃)) (shows 𝓛 (member_row m₃)) (to h).1.1.1.0 vs₃ (λ is₃. move ! (1 ∷ 0 ∷ []) $ use2 𝓛 (‵ (part_at (member_row m₃) full_share (to h).1.1.1.0 b at₃)) (shut₃ vs₃) $
+          move ! (5 ∷ []) $ use1 𝓛 (some (λ (vs₄ : List Val). ‵ (cell_at full_share (member_row m₄).mir vs₄ b at₄) ⊛ ‵ ((member_row m₄).own_val (to h).1.1.1.1.0 vs₄))) opened₄ $ pick ! (λ vs₄. split ! $ move ! (1 ∷ []) $ peeks ! (member_row m₄) (Is (member_row m₄)) (shows 𝓛 (member_row m₄)) (to h).1.1.1.1.0 vs₄ (λ is₄. move ! (1 ∷ 0 ∷ []) $ use2 𝓛 (‵ (part_at (member_row m₄) full_share (to h).1.1.1.1.0 b at₄)) (shut₄ vs₄) $
           lft_new ! tt (λ ν₁. move ! (4 ∷ []) $ use1 𝓛 (later (some (λ (δ : GName). ‵ ((MutRef (named 0) (ν₁ ∷ []) (member_row m₁)).own_val (record { ref_ptr = (b, at₁); ghost_name = δ; now = (to h).1.0 }) (vptr b at₁ ∷ [])) ⊛ ‵ (flent (ν₁ ∷ []) (Body (mem (member_row m₁)) b at₁ δ))))) (lends_ref 𝓛 (member_row m₁) (named 0) (ν₁ ∷ []) (to h).1.0 b at₁) $ await ! tt $ pick ! (λ δ₁. split ! $
           lft_new ! tt (λ ν₂. move ! (6 ∷ []) $ use1 𝓛 (later (some (λ (δ : GName). ‵ ((MutRef (named 1) (ν₂ ∷ []) (member_row m₂)).own_val (record { ref_ptr = (b, at₂); ghost_name = δ; now = (to h).1.1.0 }) (vptr b at₂ ∷ [])) ⊛ ‵ (flent (ν₂ ∷ []) (Body (mem (member_row m₂)) b at₂ δ))))) (lends_ref 𝓛 (member_row m₂) (named 1) (ν₂ ∷ []) (to h).1.1.0 b at₂) $ await ! tt $ pick ! (λ δ₂. split ! $
           lft_new ! tt (λ ν₃. move ! (8 ∷ []) $ use1 𝓛 (later (some (λ (δ : GName). ‵ ((MutRef (named 2) (ν₃ ∷ []) (member_row m₃)).own_val (record { ref_ptr = (b, at₃); ghost_name = δ; now = (to h).1.1.1.0 }) (vptr b at₃ ∷ [])) ⊛ ‵ (flent (ν₃ ∷ []) (Body (mem (member_row m₃)) b at₃ δ))))) (lends_ref 𝓛 (member_row m₃) (named 2) (ν₃ ∷ []) (to h).1.1.1.0 b at₃) $ await ! tt $ pick ! (λ δ₃. split ! $
           lft_new ! tt (λ ν₄. move ! (10 ∷ []) $ use1 𝓛 (later (some (λ (δ : GName). ‵ ((MutRef (named 3) (ν₄ ∷ []) (member_row m₄)).own_val (record { ref_ptr = (b, at₄); ghost_name = δ; now = (to h).1.1.1.1.0 }) (vptr b at₄ ∷ [])) ⊛ ‵ (flent (ν₄ ∷ []) (Body (mem (member_row m₄)) b at₄ δ))))) (lends_ref 𝓛 (member_row m₄) (named 3) (ν₄ ∷ []) (to h).1.1.1.1.0 b at₄) $ await ! tt $ pick ! (λ δ₄. split ! $
-          move ! (3 ∷ 0 ∷ []) $ join ! $ move ! (5 ∷ 0 ∷ []) $ join ! $ move ! (7 ∷ 0 ∷ []) $ join ! $ move ! (2 ∷ 0 ∷ []) $ join ! $ move ! (3 ∷ 0 ∷ []) $ join ! $ move ! (4 ∷ 0 ∷ []) $ join ! $ move ! (5 ∷ 0 ∷ []) $ join ! $ use1 𝓛 (raw ((Callee 𝓛).pre (to_callee ν₁ δ₁ ν₂ δ₂ ν₃ δ₃ ν₄ δ₄))) (asked was (pre_holds h vs₁ vs₂ vs₃ vs₄ is₁ is₂ is₃ is₄) ν₁ δ₁ ν₂ δ₂ ν₃ δ₃ ν₄ δ₄) $ calls_at ! fm (Callee 𝓛) known (to_callee ν₁ δ₁ ν₂ δ₂ ν₃ δ₃ ν₄ δ₄) (and_then ! (load ! (from ! (stop !)) (look ! 21 refl)) (and_then ! (load ! (from ! (stop !)) (look ! 17 refl)) (and_then ! (load ! (from ! (stop !)) (look ! 15 refl)) (and_then ! (load ! (from ! (stop !)) (look ! 13 refl)) (and_then ! (load ! (from ! (stop !)) (look ! 11 refl)) (no_more !)))))) (λ u.
-          use1 𝓛 (later (some (λ (r : O.row.Denot). ((‵ (flft (ν₁ ∷ []) full_share) ⊛ ‵ (flft (ν₂ ∷ []) full_share) ⊛ ‵ (flft (ν₃ ∷ []) full_share) ⊛ ‵ (flft (ν₄ ∷ []) full_share) ⊛ ‵ ftrue) ⊛ ‵ (O.row.own_val r (u ∷ []))) ⊛ raw ((callee_spec 𝓛 (ν₁ ∷ [], (ν₂ ∷ [], (ν₃ ∷ [], (ν₄ ∷ [], tt)))) ((hd h), (record { ref_ptr = (b, at₁); ghost_name = δ₁; now = (to h).1.0 }, (record { ref_ptr = (b, at₂); ghost_name = δ₂; now = (to h).1.1.0 }, (record { ref_ptr = (b, at₃); ghost_name = δ₃; now = (to h).1.1.1.0 }, (record { ref_ptr = (b, at₄); ghost_name = δ₄; now = (to h).1.1.1.1.0 }, tt)))))).ensures tt r)))) (id⊢ 𝓤 _) $ await ! tt $ pick ! (λ r. split ! $ move ! (1 ∷ []) $ use1 𝓛 (some (λ (ws : Fins (ν₁ ∷ [], (ν₂ ∷ [], (ν₃ ∷ [], (ν₄ ∷ [], tt)))) callee.params (yes, (yes, (yes, (yes, (yes, tt))))) ((hd h), (record { ref_ptr = (b, at₁); ghost_name = δ₁; now = (to h).1.0 }, (record { ref_ptr = (b, at₂); ghost_name = δ₂; now = (to h).1.1.0 }, (record { ref_ptr = (b, at₃); ghost_name = δ₃; now = (to h).1.1.1.0 }, (record { ref_ptr = (b, at₄); ghost_name = δ₄; now = (to h).1.1.1.1.0 }, tt)))))). ‵ (lasts_of (ν₁ ∷ [], (ν₂ ∷ [], (ν₃ ∷ [], (ν₄ ∷ [], tt)))) callee.params (yes, (yes, (yes, (yes, (yes, tt))))) ((hd h), (record { ref_ptr = (b, at₁); ghost_name = δ₁; now = (to h).1.0 }, (record { ref_ptr = (b, at₂); ghost_name = δ₂; now = (to h).1.1.0 }, (record { ref_ptr = (b, at₃); ghost_name = δ₃; now = (to h).1.1.1.0 }, (record { ref_ptr = (b, at₄); ghost_name = δ₄; now = (to h).1.1.1.1.0 }, tt))))) ws) ⊛ raw (fact 𝓤 ((r ≡ spec (hd h) (to h).1.0 (to h).1.1.0 (to h).1.1.1.0 (to h).1.1.1.1.0) × (ws.1.0 ≡ set₁ (hd h) (to h).1.0 (to h).1.1.0 (to h).1.1.1.0 (to h).1.1.1.1.0) × (ws.1.1.0 ≡ set₂ (hd h) (to h).1.0 (to h).1.1.0 (to h).1.1.1.0 (to h).1.1.1.1.0) × (ws.1.1.1.0 ≡ set₃ (hd h) (to h).1.0 (to h).1.1.0 (to h).1.1.1.0 (to h).1.1.1.1.0) × (ws.1.1.1.1.0 ≡ set₄ (hd h) (to h).1.0 (to h).1.1.0 (to h).1.1.1.0 (to h).1.1.1.1.0))))) (id⊢ 𝓤 _) $ pick ! (λ ws. split ! $ move ! (1 ∷ []) $ heard ! ((r ≡ spec (hd h) (to h).1.0 (to h).1.1.0 (to h).1.1.1.0 (to h).1.1.1.1.0) × (ws.1.0 ≡ set₁ (hd h) (to h).1.0 (to h).1.1.0 (to h).1.1.1.0 (to h).1.1.1.1.0) × (ws.1.1.0 ≡ set₂ (hd h) (to h).1.0 (to h).1.1.0 (to h).1.1.1.0 (to h).1.1.1.1.0) × (ws.1.1.1.0 ≡ set₃ (hd h) (to h).1.0 (to h).1.1.0 (to h).1.1.1.0 (to h).1.1.1.1.0) × (ws.1.1.1.1.0 ≡ set₄ (hd h) (to h).1.0 (to h).1.1.0 (to h).1.1.1.0 (to h).1.1.1.1.0)) (λ e. fsplit ! $ drop ! $ fsplit ! $ move ! (1 ∷ []) $ fsplit ! $ move ! (1 ∷ []) $ fsplit ! $ move ! (1 ∷ []) $ fsplit ! $ move ! (1 ∷ []) $ drop ! $ move ! (4 ∷ []) $ split ! $ split ! $ move ! (1 ∷ []) $ split ! $ move ! (1 ∷ []) $ split ! $ move ! (1 ∷ []) $ split ! $ move ! (1 ∷ []) $ drop ! $ move ! (4 ∷ []) $ peeks ! O.row (Is O.row) (shows 𝓛 O.row) r (u ∷ []) (λ is.
-          land ! (from ! (stop !)) (init ! 27 refl (typed_out r u is)) $ rewrite ! 27 (λ (u' : Val). ‵ (fat full_share τO b₃ 0 u')) (ap only (O.tells r _ is)) refl $
-          assigns ! (of_opd ! (load ! (from ! (fld ! refl (stop !))) (look_in ! 27 (sub ! 1 refl (whole !))))) (from ! (hop ! (look ! 31 refl) (fld ! refl (stop !)))) (store_raw ! 14 refl ((LL.lawful S₀.T S₀.L 𝓛).typed (O.st r) _ (O.st_is r _ is)).0) $
-          assigns ! (of_opd ! (load ! (from ! (fld ! refl (stop !))) (look_in ! 27 (sub ! 0 refl (whole !))))) (from ! (stop !)) (init ! 33 refl (Ans.typed (O.ans r) (O.ans_is r _ is))) $
+          move ! (3 ∷ 0 ∷ []) $ join ! $ move ! (5 ∷ 0 ∷ []) $ join ! $ move ! (7 ∷ 0 ∷ []) $ join ! $ move ! (2 ∷ 0 ∷ []) $ join ! $ move ! (3 ∷ 0 ∷ []) $ join ! $ move ! (4 ∷ 0 ∷ []) $ join ! $ move ! (5 ∷ 0 ∷ []) $ join ! $ use1 𝓛 (raw ((Callee 𝓛).pre (to_callee ν₁ δ₁ ν₂ δ₂ ν₃ δ₃ ν₄ δ₄))) (asked was (pre_holds h vs₁ vs₂ vs₃ vs₄ is₁ is₂ is₃ is₄) ν₁ δ₁ ν₂ δ₂ ν₃ δ₃ ν₄ δ₄) $ calls_at ! fm (Callee 𝓛) known (to_callee ν₁ δ₁ ν₂ δ₂ ν₃ δ₃ ν₄ δ₄) (and_then ! (load ! (from ! (stop !)) (look ! 23 refl)) (and_then ! (load ! (from ! (stop !)) (look ! 19 refl)) (and_then ! (load ! (from ! (stop !)) (look ! 17 refl)) (and_then ! (load ! (from ! (stop !)) (look ! 15 refl)) (and_then ! (load ! (from ! (stop !)) (look ! 13 refl)) (no_more !)))))) (λ u.
+          use1 𝓛 (later (some (λ (r : O.row.Denot). ((‵ (flft (ν₁ ∷ []) full_share) ⊛ ‵ (flft (ν₂ ∷ []) full_share) ⊛ ‵ (flft (ν₃ ∷ []) full_share) ⊛ ‵ (flft (ν₄ ∷ []) full_share) ⊛ ‵ ftrue) ⊛ ‵ (O.row.own_val r (u ∷ []))) ⊛ raw ((callee_spec 𝓛 (ν₁ ∷ [], (ν₂ ∷ [], (ν₃ ∷ [], (ν₄ ∷ [], tt)))) ((hd h), (record { ref_ptr = (b, at₁); ghost_name = δ₁; now = (to h).1.0 }, (record { ref_ptr = (b, at₂); ghost_name = δ₂; now = (to h).1.1.0 }, (record { ref_ptr = (b, at₃); ghost_name = δ₃; now = (to h).1.1.1.0 }, (record { ref_ptr = (b, at₄); ghost_name = δ₄; now = (to h).1.1.1.1.0 }, tt)))))).ensures tt r)))) (id⊢ 𝓤 _) $ await ! tt $ pick ! (λ r. split ! $ move ! (1 ∷ []) $ use1 𝓛 (some (λ (ws : Fins (ν₁ ∷ [], (ν₂ ∷ [], (ν₃ ∷ [], (ν₄ ∷ [], tt)))) callee.params (yes, (yes, (yes, (yes, (yes, tt))))) ((hd h), (record { ref_ptr = (b, at₁); ghost_name = δ₁; now = (to h).1.0 }, (record { ref_ptr = (b, at₂); ghost_name = δ₂; now = (to h).1.1.0 }, (record { ref_ptr = (b, at₃); ghost_name = δ₃; now = (to h).1.1.1.0 }, (record { ref_ptr = (b, at₄); ghost_name = δ₄; now = (to h).1.1.1.1.0 }, tt)))))). ‵ (lasts_of (ν₁ ∷ [], (ν₂ ∷ [], (ν₃ ∷ [], (ν₄ ∷ [], tt)))) callee.params (yes, (yes, (yes, (yes, (yes, tt))))) ((hd h), (record { ref_ptr = (b, at₁); ghost_name = δ₁; now = (to h).1.0 }, (record { ref_ptr = (b, at₂); ghost_name = δ₂; now = (to h).1.1.0 }, (record { ref_ptr = (b, at₃); ghost_name = δ₃; now = (to h).1.1.1.0 }, (record { ref_ptr = (b, at₄); ghost_name = δ₄; now = (to h).1.1.1.1.0 }, tt))))) ws) ⊛ raw (fact 𝓤 ((r ≡ spec (hd h) (to h).1.0 (to h).1.1.0 (to h).1.1.1.0 (to h).1.1.1.1.0) × (ws.1.0 ≡ set₁ (hd h) (to h).1.0 (to h).1.1.0 (to h).1.1.1.0 (to h).1.1.1.1.0) × (ws.1.1.0 ≡ set₂ (hd h) (to h).1.0 (to h).1.1.0 (to h).1.1.1.0 (to h).1.1.1.1.0) × (ws.1.1.1.0 ≡ set₃ (hd h) (to h).1.0 (to h).1.1.0 (to h).1.1.1.0 (to h).1.1.1.1.0) × (ws.1.1.1.1.0 ≡ set₄ (hd h) (to h).1.0 (to h).1.1.0 (to h).1.1.1.0 (to h).1.1.1.1.0))))) (id⊢ 𝓤 _) $ pick ! (λ ws. split ! $ move ! (1 ∷ []) $ heard ! ((r ≡ spec (hd h) (to h).1.0 (to h).1.1.0 (to h).1.1.1.0 (to h).1.1.1.1.0) × (ws.1.0 ≡ set₁ (hd h) (to h).1.0 (to h).1.1.0 (to h).1.1.1.0 (to h).1.1.1.1.0) × (ws.1.1.0 ≡ set₂ (hd h) (to h).1.0 (to h).1.1.0 (to h).1.1.1.0 (to h).1.1.1.1.0) × (ws.1.1.1.0 ≡ set₃ (hd h) (to h).1.0 (to h).1.1.0 (to h).1.1.1.0 (to h).1.1.1.1.0) × (ws.1.1.1.1.0 ≡ set₄ (hd h) (to h).1.0 (to h).1.1.0 (to h).1.1.1.0 (to h).1.1.1.1.0)) (λ e. fsplit ! $ drop ! $ fsplit ! $ fsplit ! $ move ! (1 ∷ []) $ drop ! $ move ! (1 ∷ []) $ fsplit ! $ fsplit ! $ move ! (1 ∷ []) $ drop ! $ move ! (1 ∷ []) $ fsplit ! $ fsplit ! $ move ! (1 ∷ []) $ drop ! $ move ! (1 ∷ []) $ fsplit ! $ fsplit ! $ move ! (1 ∷ []) $ drop ! $ move ! (1 ∷ []) $ drop ! $ move ! (4 ∷ []) $ split ! $ split ! $ move ! (1 ∷ []) $ split ! $ move ! (1 ∷ []) $ split ! $ move ! (1 ∷ []) $ split ! $ move ! (1 ∷ []) $ drop ! $ move ! (4 ∷ []) $ peeks ! O.row (Is O.row) (shows 𝓛 O.row) r (u ∷ []) (λ is.
+          land ! (from ! (stop !)) (init ! 29 refl (typed_out r u is)) $ rewrite ! 29 (λ (u' : Val). ‵ (fat full_share τO b₃ 0 u')) (ap only (O.tells r _ is)) refl $
+          assigns ! (of_opd ! (load ! (from ! (fld ! refl (stop !))) (look_in ! 29 (sub ! 1 refl (whole !))))) (from ! (stop !)) (init ! 19 refl (((LL.lawful S₀.T S₀.L 𝓛).typed (O.st r) _ (O.st_is r _ is)).0)) $
+          assigns ! (of_opd ! (load ! (from ! (stop !)) (look ! 19 refl))) (from ! (hop ! (look ! 33 refl) (fld ! refl (stop !)))) (store_raw ! 14 refl (((LL.lawful S₀.T S₀.L 𝓛).typed (O.st r) _ (O.st_is r _ is)).0)) $
+          assigns ! (of_opd ! (load ! (from ! (fld ! refl (stop !))) (look_in ! 29 (sub ! 0 refl (whole !))))) (from ! (stop !)) (init ! 35 refl (Ans.typed (O.ans r) (O.ans_is r _ is))) $
           drop ! $ move ! (12 ∷ []) $ drop ! $ owned ! (state_row S₀) (Is (state_row S₀)) (LL.makes S₀.T S₀.plain 𝓛) (O.st r) _ (O.st_is r _ is) $ move ! (13 ∷ 0 ∷ []) $ use2 𝓛 (‵ (part_at (member_row (state_member S₀)) full_share (S₀.T.to (O.st r)) b at₀)) (shut (O.st r) (mach (O.st r) ∷ [])) $
-          move ! (4 ∷ []) $ lft_end ! tt $ move ! (0 ∷ 12 ∷ 8 ∷ []) $ use3 𝓛 (later (‵ (part_at (member_row m₁) full_share ws.1.0 b at₁))) (ref_back 𝓛 (member_row m₁) (ν₁ ∷ []) δ₁ ws.1.0 b at₁) $ await ! tt $
-          move ! (4 ∷ []) $ lft_end ! tt $ move ! (0 ∷ 10 ∷ 7 ∷ []) $ use3 𝓛 (later (‵ (part_at (member_row m₂) full_share ws.1.1.0 b at₂))) (ref_back 𝓛 (member_row m₂) (ν₂ ∷ []) δ₂ ws.1.1.0 b at₂) $ await ! tt $
-          move ! (4 ∷ []) $ lft_end ! tt $ move ! (0 ∷ 8 ∷ 6 ∷ []) $ use3 𝓛 (later (‵ (part_at (member_row m₃) full_share ws.1.1.1.0 b at₃))) (ref_back 𝓛 (member_row m₃) (ν₃ ∷ []) δ₃ ws.1.1.1.0 b at₃) $ await ! tt $
-          move ! (4 ∷ []) $ lft_end ! tt $ move ! (0 ∷ 6 ∷ 5 ∷ []) $ use3 𝓛 (later (‵ (part_at (member_row m₄) full_share ws.1.1.1.1.0 b at₄))) (ref_back 𝓛 (member_row m₄) (ν₄ ∷ []) δ₄ ws.1.1.1.1.0 b at₄) $ await ! tt $
+          move ! (4 ∷ []) $ lft_end ! tt $ move ! (0 ∷ 12 ∷ 8 ∷ []) $ use3 𝓛 (later (‵ (part_at (member_row m₁) full_share (ws.1.0) b at₁))) (ref_back 𝓛 (member_row m₁) (ν₁ ∷ []) δ₁ (ws.1.0) b at₁) $ await ! tt $
+          move ! (4 ∷ []) $ lft_end ! tt $ move ! (0 ∷ 10 ∷ 7 ∷ []) $ use3 𝓛 (later (‵ (part_at (member_row m₂) full_share (ws.1.1.0) b at₂))) (ref_back 𝓛 (member_row m₂) (ν₂ ∷ []) δ₂ (ws.1.1.0) b at₂) $ await ! tt $
+          move ! (4 ∷ []) $ lft_end ! tt $ move ! (0 ∷ 8 ∷ 6 ∷ []) $ use3 𝓛 (later (‵ (part_at (member_row m₃) full_share (ws.1.1.1.0) b at₃))) (ref_back 𝓛 (member_row m₃) (ν₃ ∷ []) δ₃ (ws.1.1.1.0) b at₃) $ await ! tt $
+          move ! (4 ∷ []) $ lft_end ! tt $ move ! (0 ∷ 6 ∷ 5 ∷ []) $ use3 𝓛 (later (‵ (part_at (member_row m₄) full_share (ws.1.1.1.1.0) b at₄))) (ref_back 𝓛 (member_row m₄) (ν₄ ∷ []) δ₄ (ws.1.1.1.1.0) b at₄) $ await ! tt $
           nothing ! $ move ! (1 ∷ 0 ∷ []) $ fjoin ! $ move ! (1 ∷ 0 ∷ []) $ fjoin ! $ move ! (1 ∷ 0 ∷ []) $ fjoin ! $ move ! (1 ∷ 0 ∷ []) $ fjoin ! $ move ! (1 ∷ 0 ∷ []) $ fjoin ! $ use2 𝓛 (‵ (part_at Row full_share (next h) b o)) (together (S₀.T.to (O.st r), (ws.1.0, (ws.1.1.0, (ws.1.1.1.0, (ws.1.1.1.1.0, tt))))) ((λ i. (S₀.T.to (O.st (e.0 i)), (e.1 i, (e.2 i, (e.3 i, (e.4 i, tt)))))) ∙ next_is h)) $
-          close_ref ! tt (mem Row) (next h) {b = b} {o = o} $ returns ! (look ! 17 refl) $ forget ! 17 refl $ forget ! 15 refl $ forget ! 13 refl $ forget ! 11 refl $ forget ! 9 refl $ forget ! 7 refl $ forget ! 5 refl $ forget ! 3 refl $
-          move ! (17 ∷ 18 ∷ []) $ free1 ! $ move ! (15 ∷ 16 ∷ []) $ free1 ! $ move ! (13 ∷ 14 ∷ []) $ free1 ! $ move ! (11 ∷ 12 ∷ []) $ free1 ! $ move ! (9 ∷ 10 ∷ []) $ free1 ! $ move ! (7 ∷ 8 ∷ []) $ free1 ! $ move ! (5 ∷ 6 ∷ []) $ free1 ! $ move ! (3 ∷ 4 ∷ []) $ free1 ! $ free0 ! $ keep ! (0 ∷ 1 ∷ 2 ∷ []) $ by ! (ends r (O.ans_is r _ is) (ap O.ans e.0 ∙ ans_is h)))))))))))))))))))))))))))))))))
+          close_ref ! tt (mem Row) (next h) {b = b} {o = o} $ returns ! (look ! 19 refl) $ forget ! 19 refl $ forget ! 17 refl $ forget ! 15 refl $ forget ! 13 refl $ forget ! 11 refl $ forget ! 9 refl $ forget ! 7 refl $ forget ! 5 refl $ forget ! 3 refl $
+          move ! (19 ∷ 20 ∷ []) $ free1 ! $ move ! (17 ∷ 18 ∷ []) $ free1 ! $ move ! (15 ∷ 16 ∷ []) $ free1 ! $ move ! (13 ∷ 14 ∷ []) $ free1 ! $ move ! (11 ∷ 12 ∷ []) $ free1 ! $ move ! (9 ∷ 10 ∷ []) $ free1 ! $ move ! (7 ∷ 8 ∷ []) $ free1 ! $ move ! (5 ∷ 6 ∷ []) $ free1 ! $ move ! (3 ∷ 4 ∷ []) $ free1 ! $ free0 ! $ keep ! (0 ∷ 1 ∷ 2 ∷ []) $ by ! (ends r (O.ans_is r _ is) (ap O.ans (e.0) ∙ ans_is h))))))))))))))))))))))))))))))))))
 
   walks : {M : Type 1} {𝓤 : Ura M} (𝓛 : Logic 𝓤) (C : Calls 𝓤 𝓛.H) (Λ : Loops 𝓤 𝓛.H) → FmC 𝓤 𝓛.H 𝓛.laws C → Triple 𝓤 (C key) (Callee 𝓛) → Walks 𝓛 ended stayed (WpFn 𝓤 𝓛.H C Λ function) (clauses 𝓛)
   walks {𝓤 = 𝓤} 𝓛 C Λ fm known = walked 𝓛 ended stayed (clauses 𝓛) (WpFn 𝓤 𝓛.H C Λ function) (λ κs. (mut_vals, tt)) (λ κs. (mut_Tells (named 0) κs.0 Row, tt))

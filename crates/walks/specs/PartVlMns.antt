@@ -1,15 +1,13 @@
 -- `fn f(t: &mut S, a1: &mut [A1], a2: A2, a3: &[A3]) -> Ans`, where S has 2 fields, of which one goes by value to the callee and 1 are lent to it, of the form of tools/part.py, which wrote this file: it meets the contract that says the callee's of what lies behind the reference.
 -- For all types: `Behind.antt` has what is asked of them. Assumes nothing.
-use Rattle.std.specs.Prelude.{◌≡◌, refl, ℕ, zero, ◌+◌, T as Holds, length}
-use Rattle.std.proofs.Common.{sym, ap, ◌∙◌}
-use Rattle.std.proofs.Math.Path.{subst}
-use mathlib.Core.List.{[], ◌∷◌, List}
+use Rattle.std.specs.Prelude.{◌≡◌, refl, ℕ, zero, ◌+◌, [], ◌∷◌, List, T as Holds, length}
+use Rattle.std.proofs.Common.{sym, ap, subst, ◌∙◌}
 use seplogic.Ra.Ura.{Ura}
-use seplogic.Ra.TreeShare.{full_share}
-use mir.Syntax.{Sym, Name, Ty, Fn, named, erased, imm, mut, ty_ref, ty_struct, tnil, tcons, local, value_local, place, deref, field, copy, rv_opd, addr_of, aggregate, seq, assign, call, return}
+use base.Fraction.{full_share}
+use mir.Syntax.{Sym, Callee as Name, Ty, Fn, named, erased, imm, mut, ty_ref, ty_struct, tnil, tcons, local, value_local, place, deref, field, copy, rv_opd, addr_of, aggregate, seq, assign, call, return}
 use mir.Val.{Val, vptr, WT, has_ty}
 use base.Logic.{SProp, ent, sep, ex, wand, emp, via, fst∗, id⊢, all_e, apply∗, ex_i}
-use base.Fml.{GName, Lft, Share, Fml, ftrue, flft, flent, fobs, fbor, fat}
+use base.Fml.{GName, Lft, Share, Fml, ftrue, fsep, flft, flent, fobs, fbor, fat}
 use prog.Memory.{up, align, size}
 use prog.Model.{Model}
 use prog.Routine.{Routine, Env}
@@ -21,7 +19,8 @@ use contract.Running.{Running, tables, tables_of}
 use types.Kit.{‵, raw, ◌⊛◌, ⋆, some, later, ◌$◌, ◌∵◌, !, qed, by, move, keep, drop, use1, use2, use3, split, join, pick, rewrite, fsplit, fsplit3, fjoin, fjoin3, feq_l, feq_i, suffices, frame, await, done}
 use types.Run.{look, look_raw, init, store_raw, forget, stop, hop, fld, from, load, addr, of_opd, and_then, no_more, assigns, land, returns, enter, alloc1, alloc0, params1, pass1, pass0, free1, free0}
 use types.Part.{agg, whole, sub, look_in}
-use types.SemTy.{Body}
+use types.SemTy.{Body, Arr}
+use types.Hole.{Holey}
 use types.Mut.{open_ref, close_ref}
 use types.Tokens.{lft_new, lft_end}
 use sound.WpLaws.{FmC, fm_of, WpFn-mono}
@@ -30,7 +29,7 @@ use denote.Shadow.{makes_shadow}
 use denote.Laws.{Is, Makes, Lawfuls, shows}
 use denote.Memory.{mem, part_at, part_of, cell_at, pointee}
 use denote.Builtin.{RefMutOf, SliceRefOf, SliceRefMutOf}
-use denote.Ref.{Bor, MutRef, mut_vals, mut_Tells}
+use denote.Ref.{Bor, MutBor, MutRef, mut_vals, mut_Tells}
 use denote.Slice.{ShrSlice, MutSlice, slice_ty, slice_val, shr_slice_vals, mut_slice_vals, finally, shr_slice_Tells, shr_slice_Lawful, shr_slice_copy, mut_slice_Tells, mut_slice_Lawful}
 use denote.Signature.{Signature, plain}
 use denote.Exit.{yes}
@@ -52,7 +51,7 @@ use denote.Triple.Table.{entered, cited}
 use denote.Triple.Walked.{says, Stays, stay_ref, stay_none, stay_none_slice, gave_slice, walk_of, Goes-none, Goes-ref, Goes-none_slice, Goes-gave_slice, Walks, ends_at, walked, walk_Meets}
 use denote.Struct.Laws as LL
 use Rattle.common.specs.Promise.{Promise, by_value}
-use Rattle.walks.specs.Behind.{Arg, row_of, State, state_row, state_member, Out}
+use Rattle.walks.specs.Behind.{Arg, row_of, row_laws, State, state_row, state_member, Out}
 
 module _ (S₀ : State) (ν : Sym) (m₁ : Member) (D : Type 0) (to : D → Denots (rows_of ((state_member S₀) ∷ m₁ ∷ []))) (one : (x y : D) → to x ≡ to y → x ≡ y) (hd : D → S₀.T.D) (hd_is : (d : D) → (to d).0 ≡ S₀.T.to (hd d))
     (lawful : (M : Type 1) (𝓤 : Ura M) (𝓛 : Logic 𝓤) → Lawfuls 𝓛 (rows_of ((state_member S₀) ∷ m₁ ∷ [])))
@@ -79,9 +78,11 @@ module _ (S₀ : State) (ν : Sym) (m₁ : Member) (D : Type 0) (to : D → Deno
   function = record {
     lifetimes = 3;
     outlives = [];
+    ty_params = [];
+    givens = 0;
     params = 4;
-    locals = local Ans.ty value_local ∷ local (ty_ref (named 0) mut (pointee Row.written)) value_local ∷ local (slice_ty (ty_ref (named 1) mut A₁.ty)) value_local ∷ local A₂.ty value_local ∷ local (slice_ty (ty_ref (named 2) imm A₃.ty)) value_local ∷ local τV value_local ∷ local τO value_local ∷ local (ty_ref erased mut (pointee m₁.row.written)) value_local ∷ local (ty_ref erased mut A₁.ty) value_local ∷ local (slice_ty (ty_ref erased mut A₁.ty)) value_local ∷ [];
-    body = seq (assign (place 5 []) (rv_opd (copy (place 1 (deref τS ∷ field 0 ∷ []))))) (seq (assign (place 7 []) (addr_of (place 1 (deref τS ∷ field 1 ∷ [])))) (seq (assign (place 8 []) (addr_of (place 2 (field 0 ∷ deref A₁.ty ∷ [])))) (seq (assign (place 9 []) (aggregate (copy (place 8 []) ∷ copy (place 2 (field 1 ∷ [])) ∷ []))) (seq (call key (copy (place 5 []) ∷ copy (place 7 []) ∷ copy (place 9 []) ∷ copy (place 3 []) ∷ copy (place 4 []) ∷ []) (place 6 [])) (seq (assign (place 1 (deref τS ∷ field 0 ∷ [])) (rv_opd (copy (place 6 (field 1 ∷ []))))) (seq (assign (place 0 []) (rv_opd (copy (place 6 (field 0 ∷ []))))) return))))));
+    locals = local Ans.ty value_local ∷ local (ty_ref (named 0) mut (pointee Row.written)) value_local ∷ local (slice_ty (ty_ref (named 1) mut A₁.ty)) value_local ∷ local A₂.ty value_local ∷ local (slice_ty (ty_ref (named 2) imm A₃.ty)) value_local ∷ local τV value_local ∷ local τO value_local ∷ local (ty_ref erased mut (pointee m₁.row.written)) value_local ∷ local (ty_ref erased mut A₁.ty) value_local ∷ local (slice_ty (ty_ref erased mut A₁.ty)) value_local ∷ local τV value_local ∷ [];
+    body = seq (assign (place 5 []) (rv_opd (copy (place 1 (deref τS ∷ field 0 ∷ []))))) (seq (assign (place 7 []) (addr_of (place 1 (deref τS ∷ field 1 ∷ [])))) (seq (assign (place 8 []) (addr_of (place 2 (field 0 ∷ deref A₁.ty ∷ [])))) (seq (assign (place 9 []) (aggregate (copy (place 8 []) ∷ copy (place 2 (field 1 ∷ [])) ∷ []))) (seq (call key (copy (place 5 []) ∷ copy (place 7 []) ∷ copy (place 9 []) ∷ copy (place 3 []) ∷ copy (place 4 []) ∷ []) (place 6 [])) (seq (assign (place 10 []) (rv_opd (copy (place 6 (field 1 ∷ []))))) (seq (assign (place 1 (deref τS ∷ field 0 ∷ [])) (rv_opd (copy (place 10 [])))) (seq (assign (place 0 []) (rv_opd (copy (place 6 (field 0 ∷ []))))) return)))))));
   }
 
   abbrev pub callee : Signature
@@ -119,11 +120,11 @@ module _ (S₀ : State) (ν : Sym) (m₁ : Member) (D : Type 0) (to : D → Deno
   made : {M : Type 1} {𝓤 : Ura M} (𝓛 : Logic 𝓤) (B : Arg) → Makes 𝓛 (row_of B) (Is (row_of B))
   made 𝓛 B x vs p = makes_shadow 𝓛 (B.own x vs) (B.pure x vs) p
 
-  module _ {M : Type 1} {𝓤 : Ura M} (𝓛 : Logic 𝓤) (κ : Lft) (q : Share) (κ₁ : Lft) (q₁ : Share) (κ₃ : Lft) (q₃ : Share) (b o : ℕ) (γ : GName) (h : D) (a₁ : Bor (List A₁.X)) (a₂ : A₂.X) (a₃ : Bor (List A₃.X)) (p₁ : Is (MutSlice (named 1) κ₁ (row_of A₁)) a₁ (slice_val a₁.ref_ptr (length a₁.now) ∷ [])) (p₂ : Is (row_of A₂) a₂ (A₂.val a₂ ∷ [])) (p₃ : Is (ShrSlice (named 2) κ₃ (row_of A₃)) a₃ (slice_val a₃.ref_ptr (length a₃.now) ∷ [])) where
+  module _ {M : Type 1} {𝓤 : Ura M} (𝓛 : Logic 𝓤) (κ : Lft) (q : Share) (κ₁ : Lft) (q₁ : Share) (κ₃ : Lft) (q₃ : Share) (b o : ℕ) (γ : GName) (h : D) (a₁ : MutBor (List A₁.X)) (a₂ : A₂.X) (a₃ : Bor (List A₃.X)) (p₁ : Is (MutSlice (named 1) κ₁ (row_of A₁)) a₁ (slice_val a₁.ref_ptr (length a₁.now) ∷ [])) (p₂ : Is (row_of A₂) a₂ (A₂.val a₂ ∷ [])) (p₃ : Is (ShrSlice (named 2) κ₃ (row_of A₃)) a₃ (slice_val a₃.ref_ptr (length a₃.now) ∷ [])) where
     open 𝓛 use {H}
 
     abbrev Xs : Type 0
-    Xs = Bor D × (Bor (List A₁.X) × (A₂.X × (Bor (List A₃.X) × Unit {0})))
+    Xs = MutBor D × (MutBor (List A₁.X) × (A₂.X × (Bor (List A₃.X) × Unit {0})))
 
     abbrev Vs : Type 0
     Vs = List Val × (List Val × (List Val × (List Val × Unit {0})))
@@ -159,9 +160,9 @@ module _ (S₀ : State) (ν : Sym) (m₁ : Member) (D : Type 0) (to : D → Deno
     asked : Is (state_row S₀) (hd h) (mach (hd h) ∷ []) → (ν₁ : ℕ) (δ₁ : GName) → ent 𝓤 (⋆ 𝓛 (‵ (flft (ν₁ ∷ []) full_share) ∷ ‵ (flft κ₁ q₁) ∷ ‵ (flft κ₃ q₃) ∷ ‵ ((MutRef (named 0) (ν₁ ∷ []) (member_row m₁)).own_val (record { ref_ptr = (b, at₁); ghost_name = δ₁; now = (to h).1.0 }) (vptr b at₁ ∷ [])) ∷ ‵ ((MutSlice (named 1) κ₁ (row_of A₁)).own_val a₁ (slice_val a₁.ref_ptr (length a₁.now) ∷ [])) ∷ ‵ ((ShrSlice (named 2) κ₃ (row_of A₃)).own_val a₃ (slice_val a₃.ref_ptr (length a₃.now) ∷ [])) ∷ [])) ((Callee 𝓛).pre (to_callee ν₁ δ₁))
     asked was ν₁ δ₁ = qed 𝓛 (‵ (flft (ν₁ ∷ []) full_share) ∷ ‵ (flft κ₁ q₁) ∷ ‵ (flft κ₃ q₃) ∷ ‵ ((MutRef (named 0) (ν₁ ∷ []) (member_row m₁)).own_val (record { ref_ptr = (b, at₁); ghost_name = δ₁; now = (to h).1.0 }) (vptr b at₁ ∷ [])) ∷ ‵ ((MutSlice (named 1) κ₁ (row_of A₁)).own_val a₁ (slice_val a₁.ref_ptr (length a₁.now) ∷ [])) ∷ ‵ ((ShrSlice (named 2) κ₃ (row_of A₃)).own_val a₃ (slice_val a₃.ref_ptr (length a₃.now) ∷ [])) ∷ []) ∵ nothing ! $ move ! (6 ∷ 0 ∷ []) $ fjoin ! $ owned ! (row_of A₂) (Is (row_of A₂)) (made 𝓛 A₂) a₂ _ p₂ $ fjoin ! $ move ! (5 ∷ 0 ∷ []) $ fjoin ! $ move ! (4 ∷ 0 ∷ []) $ fjoin ! $ owned ! (state_row S₀) (Is (state_row S₀)) (LL.makes S₀.T S₀.plain 𝓛) (hd h) _ was $ fjoin ! $ nothing ! $ move ! (4 ∷ 0 ∷ []) $ join ! $ move ! (3 ∷ 0 ∷ []) $ join ! $ move ! (2 ∷ 0 ∷ []) $ join ! $ join ! $ frame ! $ nothing ! $ done !
 
-    ends : (r : O.row.Denot) (z₁ : List A₁.X) (l₁ : length z₁ ≡ length a₁.now) → Is (row_of Ans) (O.ans r) (Ans.val (O.ans r) ∷ []) → (O.ans r ≡ ans h a₁.now a₂ a₃.now) × (z₁ ≡ last₁ h a₁.now a₂ a₃.now) → ent 𝓤 (⋆ 𝓛 (‵ (fobs γ (Row.coded.code (next h a₁.now a₂ a₃.now))) ∷ ‵ (fbor κ (Body (mem Row) b o γ)) ∷ ‵ (flft κ q) ∷ ‵ (flft κ₁ q₁) ∷ ‵ (flft κ₃ q₃) ∷ ‵ ((ShrSlice (named 2) κ₃ (row_of A₃)).own_val a₃ (slice_val a₃.ref_ptr (length a₃.now) ∷ [])) ∷ ‵ (finally (row_of A₁) a₁.ghost_name z₁) ∷ [])) (After (Ans.val (O.ans r)))
+    ends : (r : O.row.Denot) (z₁ : List A₁.X) (l₁ : length z₁ ≡ length a₁.now) → Is (row_of Ans) (O.ans r) (Ans.val (O.ans r) ∷ []) → (O.ans r ≡ ans h a₁.now a₂ a₃.now) × (z₁ ≡ last₁ h a₁.now a₂ a₃.now) → ent 𝓤 (⋆ 𝓛 (‵ (fobs γ (Row.coded.code (next h a₁.now a₂ a₃.now))) ∷ ‵ (fbor κ (Body (mem Row) b o γ)) ∷ ‵ (flft κ q) ∷ ‵ (flft κ₁ q₁) ∷ ‵ (flft κ₃ q₃) ∷ ‵ ((ShrSlice (named 2) κ₃ (row_of A₃)).own_val a₃ (slice_val a₃.ref_ptr (length a₃.now) ∷ [])) ∷ ‵ (fsep (finally (row_of A₁) a₁.ghost_name z₁) (fbor κ₁ (Body (Arr (Holey (mem (row_of A₁))) (length a₁.now)) a₁.ref_ptr.0 a₁.ref_ptr.1 a₁.ghost_name))) ∷ [])) (After (Ans.val (O.ans r)))
     ends r z₁ l₁ is e =
-        qed 𝓛 (‵ (fobs γ (Row.coded.code (next h a₁.now a₂ a₃.now))) ∷ ‵ (fbor κ (Body (mem Row) b o γ)) ∷ ‵ (flft κ q) ∷ ‵ (flft κ₁ q₁) ∷ ‵ (flft κ₃ q₃) ∷ ‵ ((ShrSlice (named 2) κ₃ (row_of A₃)).own_val a₃ (slice_val a₃.ref_ptr (length a₃.now) ∷ [])) ∷ ‵ (finally (row_of A₁) a₁.ghost_name z₁) ∷ []) ∵
+        qed 𝓛 (‵ (fobs γ (Row.coded.code (next h a₁.now a₂ a₃.now))) ∷ ‵ (fbor κ (Body (mem Row) b o γ)) ∷ ‵ (flft κ q) ∷ ‵ (flft κ₁ q₁) ∷ ‵ (flft κ₃ q₃) ∷ ‵ ((ShrSlice (named 2) κ₃ (row_of A₃)).own_val a₃ (slice_val a₃.ref_ptr (length a₃.now) ∷ [])) ∷ ‵ (fsep (finally (row_of A₁) a₁.ghost_name z₁) (fbor κ₁ (Body (Arr (Holey (mem (row_of A₁))) (length a₁.now)) a₁.ref_ptr.0 a₁.ref_ptr.1 a₁.ghost_name))) ∷ []) ∵
         suffices ! _ (ends_at 𝓛 ended stayed (clauses 𝓛) (((κ, (κ₁, (κ₃, tt))), (q, (q₁, (q₃, tt))), tt, x, at), tt) (Ans.val (O.ans r)) (O.ans r) (next h a₁.now a₂ a₃.now, (z₁, (tt, (tt, tt)))) (tt, (l₁, (tt, (tt, tt))))) $ says ! (e.0, refl, e.1) $
         nothing ! $ move ! (5 ∷ 0 ∷ []) $ join ! $ move ! (4 ∷ 0 ∷ []) $ join ! $ move ! (3 ∷ 0 ∷ []) $ join ! $ frame ! $ feq_i ! (List Val) (vptr b o ∷ []) (vptr b o ∷ []) refl $ fjoin3 ! $ nothing ! $ move ! (2 ∷ 0 ∷ []) $ fjoin ! $ owned ! (row_of A₂) (Is (row_of A₂)) (made 𝓛 A₂) a₂ _ p₂ $ fjoin ! $ move ! (2 ∷ 0 ∷ []) $ fjoin ! $ move ! (1 ∷ 0 ∷ []) $ fjoin ! $ owned ! (row_of Ans) (Is (row_of Ans)) (made 𝓛 Ans) (O.ans r) _ is $ move ! (1 ∷ 0 ∷ []) $ done !
 
@@ -170,13 +171,13 @@ module _ (S₀ : State) (ν : Sym) (m₁ : Member) (D : Type 0) (to : D → Deno
         (as_fields (Ans.ty ∷ τV ∷ []) (Ans.val (O.ans r) ∷ mach (O.st r) ∷ []) (Ans.typed (O.ans r) (O.ans_is r _ is), (((LL.lawful S₀.T S₀.L 𝓛).typed (O.st r) _ (O.st_is r _ is)).0, tt)))
 
     -- the head in memory is its cell with what it owns, and back
-    opened : ent 𝓤 (sem 𝓛 (part_at (member_row (state_member S₀)) full_share (to h).0 b at₀)) (ex 𝓤 (λ (vs : List Val). sep 𝓤 (sem 𝓛 (cell_at full_share (state_row S₀).mir vs b at₀)) (sem 𝓛 ((state_row S₀).own (hd h) vs))))
+    opened : ent 𝓤 (sem 𝓛 (part_at (member_row (state_member S₀)) full_share (to h).0 b at₀)) (ex 𝓤 (λ (vs : List Val). sep 𝓤 (sem 𝓛 (cell_at full_share (state_row S₀).mir vs b at₀)) (sem 𝓛 ((state_row S₀).own_val (hd h) vs))))
     unfolding part_of
-    opened = subst (λ (u : (member_row (state_member S₀)).Denot). ent 𝓤 (sem 𝓛 (part_at (member_row (state_member S₀)) full_share u b at₀)) (ex 𝓤 (λ (vs : List Val). sep 𝓤 (sem 𝓛 (cell_at full_share (state_row S₀).mir vs b at₀)) (sem 𝓛 ((state_row S₀).own (hd h) vs))))) (sym (hd_is h)) (id⊢ 𝓤 _)
+    opened = subst (λ (u : (member_row (state_member S₀)).Denot). ent 𝓤 (sem 𝓛 (part_at (member_row (state_member S₀)) full_share u b at₀)) (ex 𝓤 (λ (vs : List Val). sep 𝓤 (sem 𝓛 (cell_at full_share (state_row S₀).mir vs b at₀)) (sem 𝓛 ((state_row S₀).own_val (hd h) vs))))) (sym (hd_is h)) (id⊢ 𝓤 _)
 
-    shut : (d : S₀.T.D) (vs : List Val) → ent 𝓤 (sep 𝓤 (sem 𝓛 (cell_at full_share (state_row S₀).mir vs b at₀)) (sem 𝓛 ((state_row S₀).own d vs))) (sem 𝓛 (part_at (member_row (state_member S₀)) full_share (S₀.T.to d) b at₀))
+    shut : (d : S₀.T.D) (vs : List Val) → ent 𝓤 (sep 𝓤 (sem 𝓛 (cell_at full_share (state_row S₀).mir vs b at₀)) (sem 𝓛 ((state_row S₀).own_val d vs))) (sem 𝓛 (part_at (member_row (state_member S₀)) full_share (S₀.T.to d) b at₀))
     unfolding part_of
-    shut d vs = ex_i 𝓤 (λ (us : List Val). sep 𝓤 (sem 𝓛 (cell_at full_share (state_row S₀).mir us b at₀)) (sem 𝓛 ((state_row S₀).own d us))) vs
+    shut d vs = ex_i 𝓤 (λ (us : List Val). sep 𝓤 (sem 𝓛 (cell_at full_share (state_row S₀).mir us b at₀)) (sem 𝓛 ((state_row S₀).own_val d us))) vs
 
     -- the struct in memory is its fields in memory, and back
     apart : ent 𝓤 (sem 𝓛 (part_at Row full_share h b o)) (sep 𝓤 (sem 𝓛 (parts_at full_share ((state_member S₀) ∷ m₁ ∷ []) zero (to h) b o)) (PartsBack 𝓛 full_share ν ((state_member S₀) ∷ m₁ ∷ []) b o))
@@ -196,25 +197,26 @@ module _ (S₀ : State) (ν : Sym) (m₁ : Member) (D : Type 0) (to : D → Deno
       walk : ent 𝓤 (on_entry 𝓛 signature (κ, (κ₁, (κ₃, tt))) (q, (q₁, (q₃, tt))) x at) (WpFn 𝓤 H C Λ function (vptr b o ∷ slice_val a₁.ref_ptr (length a₁.now) ∷ A₂.val a₂ ∷ slice_val a₃.ref_ptr (length a₃.now) ∷ []) After)
       walk =
           qed 𝓛 ((‵ (flft κ q) ⊛ ‵ (flft κ₁ q₁) ⊛ ‵ (flft κ₃ q₃) ⊛ ‵ ftrue) ∷ ‵ (owns (MutRef (named 0) κ Row ∷ MutSlice (named 1) κ₁ (row_of A₁) ∷ row_of A₂ ∷ ShrSlice (named 2) κ₃ (row_of A₃) ∷ []) x at) ∷ []) ∵ enter ! C Λ function (vptr b o ∷ slice_val a₁.ref_ptr (length a₁.now) ∷ A₂.val a₂ ∷ slice_val a₃.ref_ptr (length a₃.now) ∷ []) _ $
-          alloc1 ! (λ b₀. alloc1 ! (λ b₁. alloc1 ! (λ b₂. alloc1 ! (λ b₃. alloc1 ! (λ b₄. alloc1 ! (λ b₅. alloc1 ! (λ b₆. alloc1 ! (λ b₇. alloc1 ! (λ b₈. alloc1 ! (λ b₉. alloc0 ! $ params1 ! $ pass1 ! (init ! 16 refl (tt, tt)) $ pass1 ! (init ! 14 refl ((mut_slice_Lawful 𝓛 (named 1) κ₁ (row_of A₁)).typed a₁ _ p₁).0) $ pass1 ! (init ! 12 refl (A₂.typed a₂ p₂)) $ pass1 ! (init ! 10 refl ((shr_slice_Lawful 𝓛 (named 2) κ₃ (row_of A₃)).typed a₃ _ p₃).0) $ pass0 ! $
-          move ! (21 ∷ []) $ fsplit ! $ move ! (1 ∷ []) $ fsplit ! $ move ! (1 ∷ []) $ fsplit ! $ drop ! $ fsplit ! $ move ! (1 ∷ []) $ drop ! $ move ! (2 ∷ []) $ fsplit3 ! $ drop ! $ move ! (24 ∷ []) $ split ! $ move ! (1 ∷ []) $ split ! $ move ! (1 ∷ []) $ split ! $ move ! (1 ∷ []) $ drop ! $
+          alloc1 ! (λ b₀. alloc1 ! (λ b₁. alloc1 ! (λ b₂. alloc1 ! (λ b₃. alloc1 ! (λ b₄. alloc1 ! (λ b₅. alloc1 ! (λ b₆. alloc1 ! (λ b₇. alloc1 ! (λ b₈. alloc1 ! (λ b₉. alloc1 ! (λ b₁₀. alloc0 ! $ params1 ! $ pass1 ! (init ! 18 refl (tt, tt)) $ pass1 ! (init ! 16 refl (((mut_slice_Lawful 𝓛 (named 1) κ₁ (row_of A₁)).typed a₁ _ p₁).0)) $ pass1 ! (init ! 14 refl (A₂.typed a₂ p₂)) $ pass1 ! (init ! 12 refl (((shr_slice_Lawful 𝓛 (named 2) κ₃ (row_of A₃)).typed a₃ _ p₃).0)) $ pass0 ! $
+          move ! (23 ∷ []) $ fsplit ! $ move ! (1 ∷ []) $ fsplit ! $ move ! (1 ∷ []) $ fsplit ! $ drop ! $ fsplit ! $ move ! (1 ∷ []) $ drop ! $ move ! (2 ∷ []) $ fsplit3 ! $ drop ! $ move ! (26 ∷ []) $ split ! $ move ! (1 ∷ []) $ split ! $ move ! (1 ∷ []) $ split ! $ move ! (1 ∷ []) $ drop ! $
           move ! (3 ∷ 4 ∷ 2 ∷ []) $ open_ref ! tt (mem Row) {x = h} {b = b} {o = o} $ use1 𝓛 (‵ (parts_at full_share ((state_member S₀) ∷ m₁ ∷ []) zero (to h) b o) ⊛ raw (PartsBack 𝓛 full_share ν ((state_member S₀) ∷ m₁ ∷ []) b o)) apart $ split ! $ fsplit ! $ move ! (1 ∷ []) $ fsplit ! $ move ! (1 ∷ []) $ drop ! $
-          move ! (1 ∷ []) $ use1 𝓛 (some (λ (vs : List Val). ‵ (cell_at full_share (state_row S₀).mir vs b at₀) ⊛ ‵ ((state_row S₀).own (hd h) vs))) opened $ pick ! (λ vs. split ! $ spelt ! (state_row S₀) (Is (state_row S₀)) (shows 𝓛 (state_row S₀)) (LL.vals S₀.T S₀.L) (LL.tells S₀.T S₀.L) full_share (hd h) vs b at₀ $ move ! (1 ∷ []) $ peeks ! (state_row S₀) (Is (state_row S₀)) (shows 𝓛 (state_row S₀)) (hd h) (mach (hd h) ∷ []) (λ was.
-          assigns ! (of_opd ! (load ! (from ! (hop ! (look ! 27 refl) (fld ! refl (stop !)))) (look_raw ! 1 refl))) (from ! (stop !)) (init ! 19 refl ((LL.lawful S₀.T S₀.L 𝓛).typed (hd h) _ was).0) $
-          assigns ! (addr ! (from ! (hop ! (look ! 27 refl) (fld ! refl (stop !))))) (from ! (stop !)) (init ! 15 refl (tt, tt)) $
-          assigns ! (addr ! (from ! (fld ! refl (hop ! (look_in ! 25 (sub ! 0 refl (whole !))) (stop !))))) (from ! (stop !)) (init ! 13 refl (tt, tt)) $
-          assigns ! (agg ! (and_then ! (load ! (from ! (stop !)) (look ! 13 refl)) (and_then ! (load ! (from ! (fld ! refl (stop !))) (look_in ! 25 (sub ! 1 refl (whole !)))) (no_more !)))) (from ! (stop !)) (init ! 11 refl (tt, (tt, (record { fits = p₁.0.1.0 }, tt)))) $
+          move ! (1 ∷ []) $ use1 𝓛 (some (λ (vs : List Val). ‵ (cell_at full_share (state_row S₀).mir vs b at₀) ⊛ ‵ ((state_row S₀).own_val (hd h) vs))) opened $ pick ! (λ vs. split ! $ spelt ! (state_row S₀) (Is (state_row S₀)) (shows 𝓛 (state_row S₀)) (LL.vals S₀.T S₀.L) (LL.tells S₀.T S₀.L) full_share (hd h) vs b at₀ $ move ! (1 ∷ []) $ peeks ! (state_row S₀) (Is (state_row S₀)) (shows 𝓛 (state_row S₀)) (hd h) (mach (hd h) ∷ []) (λ was.
+          assigns ! (of_opd ! (load ! (from ! (hop ! (look ! 29 refl) (fld ! refl (stop !)))) (look_raw ! 1 refl))) (from ! (stop !)) (init ! 21 refl (((LL.lawful S₀.T S₀.L 𝓛).typed (hd h) _ was).0)) $
+          assigns ! (addr ! (from ! (hop ! (look ! 29 refl) (fld ! refl (stop !))))) (from ! (stop !)) (init ! 17 refl (tt, tt)) $
+          assigns ! (addr ! (from ! (fld ! refl (hop ! (look_in ! 27 (sub ! 0 refl (whole !))) (stop !))))) (from ! (stop !)) (init ! 15 refl (tt, tt)) $
+          assigns ! (agg ! (and_then ! (load ! (from ! (stop !)) (look ! 15 refl)) (and_then ! (load ! (from ! (fld ! refl (stop !))) (look_in ! 27 (sub ! 1 refl (whole !)))) (no_more !)))) (from ! (stop !)) (init ! 13 refl (tt, (tt, (record { fits = p₁.0.1.0 }, tt)))) $
           lft_new ! tt (λ ν₁. move ! (3 ∷ []) $ use1 𝓛 (later (some (λ (δ : GName). ‵ ((MutRef (named 0) (ν₁ ∷ []) (member_row m₁)).own_val (record { ref_ptr = (b, at₁); ghost_name = δ; now = (to h).1.0 }) (vptr b at₁ ∷ [])) ⊛ ‵ (flent (ν₁ ∷ []) (Body (mem (member_row m₁)) b at₁ δ))))) (lends_ref 𝓛 (member_row m₁) (named 0) (ν₁ ∷ []) (to h).1.0 b at₁) $ await ! tt $ pick ! (λ δ₁. split ! $
-          move ! (11 ∷ []) $ use1 𝓛 (‵ ((ShrSlice (named 2) κ₃ (row_of A₃)).own_val a₃ (slice_val a₃.ref_ptr (length a₃.now) ∷ [])) ⊛ ‵ ((ShrSlice (named 2) κ₃ (row_of A₃)).own_val a₃ (slice_val a₃.ref_ptr (length a₃.now) ∷ []))) ((shr_slice_copy 𝓛 (named 2) κ₃ (row_of A₃)).twice a₃ (slice_val a₃.ref_ptr (length a₃.now) ∷ [])) $ split ! $ move ! (13 ∷ 0 ∷ []) $ join ! $ move ! (2 ∷ 0 ∷ []) $ join ! $ move ! (10 ∷ 0 ∷ []) $ join ! $ move ! (10 ∷ 0 ∷ []) $ join ! $ move ! (3 ∷ 0 ∷ []) $ join ! $ use1 𝓛 (raw ((Callee 𝓛).pre (to_callee ν₁ δ₁))) (asked was ν₁ δ₁) $ calls_at ! fm (Callee 𝓛) known (to_callee ν₁ δ₁) (and_then ! (load ! (from ! (stop !)) (look ! 17 refl)) (and_then ! (load ! (from ! (stop !)) (look ! 13 refl)) (and_then ! (load ! (from ! (stop !)) (look ! 9 refl)) (and_then ! (load ! (from ! (stop !)) (look ! 21 refl)) (and_then ! (load ! (from ! (stop !)) (look ! 19 refl)) (no_more !)))))) (λ u.
-          use1 𝓛 (later (some (λ (r : O.row.Denot). ((‵ (flft (ν₁ ∷ []) full_share) ⊛ ‵ (flft κ₁ q₁) ⊛ ‵ (flft κ₃ q₃) ⊛ ‵ ftrue) ⊛ ‵ (O.row.own_val r (u ∷ []))) ⊛ raw ((callee_spec 𝓛 (ν₁ ∷ [], (κ₁, (κ₃, tt))) ((hd h), (record { ref_ptr = (b, at₁); ghost_name = δ₁; now = (to h).1.0 }, (a₁, (a₂, (a₃, tt)))))).ensures tt r)))) (id⊢ 𝓤 _) $ await ! tt $ pick ! (λ r. split ! $ move ! (1 ∷ []) $ use1 𝓛 (some (λ (ws : Fins (ν₁ ∷ [], (κ₁, (κ₃, tt))) callee.params (yes, (yes, (yes, (yes, (yes, tt))))) ((hd h), (record { ref_ptr = (b, at₁); ghost_name = δ₁; now = (to h).1.0 }, (a₁, (a₂, (a₃, tt)))))). ‵ (lasts_of (ν₁ ∷ [], (κ₁, (κ₃, tt))) callee.params (yes, (yes, (yes, (yes, (yes, tt))))) ((hd h), (record { ref_ptr = (b, at₁); ghost_name = δ₁; now = (to h).1.0 }, (a₁, (a₂, (a₃, tt))))) ws) ⊛ raw (fact 𝓤 ((r ≡ spec (hd h) (to h).1.0 a₁.now a₂ a₃.now) × (ws.1.0 ≡ set₁ (hd h) (to h).1.0 a₁.now a₂ a₃.now) × (ws.1.1.0 ≡ fill₁ (hd h) (to h).1.0 a₁.now a₂ a₃.now))))) (id⊢ 𝓤 _) $ pick ! (λ ws. split ! $ move ! (1 ∷ []) $ heard ! ((r ≡ spec (hd h) (to h).1.0 a₁.now a₂ a₃.now) × (ws.1.0 ≡ set₁ (hd h) (to h).1.0 a₁.now a₂ a₃.now) × (ws.1.1.0 ≡ fill₁ (hd h) (to h).1.0 a₁.now a₂ a₃.now)) (λ e. fsplit ! $ drop ! $ fsplit ! $ move ! (1 ∷ []) $ fsplit ! $ fsplit ! $ move ! (1 ∷ []) $ feq_l ! (λ l₁. move ! (1 ∷ []) $ drop ! $ move ! (2 ∷ []) $ split ! $ split ! $ move ! (1 ∷ []) $ split ! $ move ! (1 ∷ []) $ split ! $ move ! (1 ∷ []) $ drop ! $ move ! (3 ∷ []) $ peeks ! O.row (Is O.row) (shows 𝓛 O.row) r (u ∷ []) (λ is.
-          land ! (from ! (stop !)) (init ! 20 refl (typed_out r u is)) $ rewrite ! 20 (λ (u' : Val). ‵ (fat full_share τO b₆ 0 u')) (ap only (O.tells r _ is)) refl $
-          assigns ! (of_opd ! (load ! (from ! (fld ! refl (stop !))) (look_in ! 20 (sub ! 1 refl (whole !))))) (from ! (hop ! (look ! 30 refl) (fld ! refl (stop !)))) (store_raw ! 9 refl ((LL.lawful S₀.T S₀.L 𝓛).typed (O.st r) _ (O.st_is r _ is)).0) $
-          assigns ! (of_opd ! (load ! (from ! (fld ! refl (stop !))) (look_in ! 20 (sub ! 0 refl (whole !))))) (from ! (stop !)) (init ! 32 refl (Ans.typed (O.ans r) (O.ans_is r _ is))) $
+          move ! (11 ∷ []) $ use1 𝓛 (‵ ((ShrSlice (named 2) κ₃ (row_of A₃)).own_val a₃ (slice_val a₃.ref_ptr (length a₃.now) ∷ [])) ⊛ ‵ ((ShrSlice (named 2) κ₃ (row_of A₃)).own_val a₃ (slice_val a₃.ref_ptr (length a₃.now) ∷ []))) ((shr_slice_copy 𝓛 (named 2) κ₃ (row_of A₃) (row_laws A₃)).twice a₃ (slice_val a₃.ref_ptr (length a₃.now) ∷ [])) $ split ! $ move ! (13 ∷ 0 ∷ []) $ join ! $ move ! (2 ∷ 0 ∷ []) $ join ! $ move ! (10 ∷ 0 ∷ []) $ join ! $ move ! (10 ∷ 0 ∷ []) $ join ! $ move ! (3 ∷ 0 ∷ []) $ join ! $ use1 𝓛 (raw ((Callee 𝓛).pre (to_callee ν₁ δ₁))) (asked was ν₁ δ₁) $ calls_at ! fm (Callee 𝓛) known (to_callee ν₁ δ₁) (and_then ! (load ! (from ! (stop !)) (look ! 19 refl)) (and_then ! (load ! (from ! (stop !)) (look ! 15 refl)) (and_then ! (load ! (from ! (stop !)) (look ! 11 refl)) (and_then ! (load ! (from ! (stop !)) (look ! 23 refl)) (and_then ! (load ! (from ! (stop !)) (look ! 21 refl)) (no_more !)))))) (λ u.
+          use1 𝓛 (later (some (λ (r : O.row.Denot). ((‵ (flft (ν₁ ∷ []) full_share) ⊛ ‵ (flft κ₁ q₁) ⊛ ‵ (flft κ₃ q₃) ⊛ ‵ ftrue) ⊛ ‵ (O.row.own_val r (u ∷ []))) ⊛ raw ((callee_spec 𝓛 (ν₁ ∷ [], (κ₁, (κ₃, tt))) ((hd h), (record { ref_ptr = (b, at₁); ghost_name = δ₁; now = (to h).1.0 }, (a₁, (a₂, (a₃, tt)))))).ensures tt r)))) (id⊢ 𝓤 _) $ await ! tt $ pick ! (λ r. split ! $ move ! (1 ∷ []) $ use1 𝓛 (some (λ (ws : Fins (ν₁ ∷ [], (κ₁, (κ₃, tt))) callee.params (yes, (yes, (yes, (yes, (yes, tt))))) ((hd h), (record { ref_ptr = (b, at₁); ghost_name = δ₁; now = (to h).1.0 }, (a₁, (a₂, (a₃, tt)))))). ‵ (lasts_of (ν₁ ∷ [], (κ₁, (κ₃, tt))) callee.params (yes, (yes, (yes, (yes, (yes, tt))))) ((hd h), (record { ref_ptr = (b, at₁); ghost_name = δ₁; now = (to h).1.0 }, (a₁, (a₂, (a₃, tt))))) ws) ⊛ raw (fact 𝓤 ((r ≡ spec (hd h) (to h).1.0 a₁.now a₂ a₃.now) × (ws.1.0 ≡ set₁ (hd h) (to h).1.0 a₁.now a₂ a₃.now) × (ws.1.1.0 ≡ fill₁ (hd h) (to h).1.0 a₁.now a₂ a₃.now))))) (id⊢ 𝓤 _) $ pick ! (λ ws. split ! $ move ! (1 ∷ []) $ heard ! ((r ≡ spec (hd h) (to h).1.0 a₁.now a₂ a₃.now) × (ws.1.0 ≡ set₁ (hd h) (to h).1.0 a₁.now a₂ a₃.now) × (ws.1.1.0 ≡ fill₁ (hd h) (to h).1.0 a₁.now a₂ a₃.now)) (λ e. fsplit ! $ drop ! $ fsplit ! $ fsplit ! $ move ! (1 ∷ []) $ drop ! $ move ! (1 ∷ []) $ fsplit ! $ fsplit ! $ fsplit ! $ move ! (1 ∷ []) $ feq_l ! (λ l₁. fjoin ! $ move ! (1 ∷ []) $ drop ! $ move ! (2 ∷ []) $ split ! $ split ! $ move ! (1 ∷ []) $ split ! $ move ! (1 ∷ []) $ split ! $ move ! (1 ∷ []) $ drop ! $ move ! (3 ∷ []) $ peeks ! O.row (Is O.row) (shows 𝓛 O.row) r (u ∷ []) (λ is.
+          land ! (from ! (stop !)) (init ! 22 refl (typed_out r u is)) $ rewrite ! 22 (λ (u' : Val). ‵ (fat full_share τO b₆ 0 u')) (ap only (O.tells r _ is)) refl $
+          assigns ! (of_opd ! (load ! (from ! (fld ! refl (stop !))) (look_in ! 22 (sub ! 1 refl (whole !))))) (from ! (stop !)) (init ! 14 refl (((LL.lawful S₀.T S₀.L 𝓛).typed (O.st r) _ (O.st_is r _ is)).0)) $
+          assigns ! (of_opd ! (load ! (from ! (stop !)) (look ! 14 refl))) (from ! (hop ! (look ! 32 refl) (fld ! refl (stop !)))) (store_raw ! 9 refl (((LL.lawful S₀.T S₀.L 𝓛).typed (O.st r) _ (O.st_is r _ is)).0)) $
+          assigns ! (of_opd ! (load ! (from ! (fld ! refl (stop !))) (look_in ! 22 (sub ! 0 refl (whole !))))) (from ! (stop !)) (init ! 34 refl (Ans.typed (O.ans r) (O.ans_is r _ is))) $
           drop ! $ move ! (7 ∷ []) $ drop ! $ owned ! (state_row S₀) (Is (state_row S₀)) (LL.makes S₀.T S₀.plain 𝓛) (O.st r) _ (O.st_is r _ is) $ move ! (8 ∷ 0 ∷ []) $ use2 𝓛 (‵ (part_at (member_row (state_member S₀)) full_share (S₀.T.to (O.st r)) b at₀)) (shut (O.st r) (mach (O.st r) ∷ [])) $
-          move ! (3 ∷ []) $ lft_end ! tt $ move ! (0 ∷ 7 ∷ 5 ∷ []) $ use3 𝓛 (later (‵ (part_at (member_row m₁) full_share ws.1.0 b at₁))) (ref_back 𝓛 (member_row m₁) (ν₁ ∷ []) δ₁ ws.1.0 b at₁) $ await ! tt $
+          move ! (3 ∷ []) $ lft_end ! tt $ move ! (0 ∷ 7 ∷ 5 ∷ []) $ use3 𝓛 (later (‵ (part_at (member_row m₁) full_share (ws.1.0) b at₁))) (ref_back 𝓛 (member_row m₁) (ν₁ ∷ []) δ₁ (ws.1.0) b at₁) $ await ! tt $
           nothing ! $ move ! (1 ∷ 0 ∷ []) $ fjoin ! $ move ! (1 ∷ 0 ∷ []) $ fjoin ! $ move ! (0 ∷ 5 ∷ []) $ use2 𝓛 (‵ (part_at Row full_share (next h a₁.now a₂ a₃.now) b o)) (together (S₀.T.to (O.st r), (ws.1.0, tt)) ((λ i. (S₀.T.to (O.st (e.0 i)), (e.1 i, tt))) ∙ next_is h a₁.now a₂ a₃.now)) $
-          move ! (0 ∷ 5 ∷ 6 ∷ 7 ∷ []) $ close_ref ! tt (mem Row) (next h a₁.now a₂ a₃.now) {b = b} {o = o} $ returns ! (look ! 25 refl) $ forget ! 25 refl $ forget ! 23 refl $ forget ! 21 refl $ forget ! 19 refl $ forget ! 17 refl $ forget ! 15 refl $ forget ! 13 refl $ forget ! 11 refl $ forget ! 9 refl $ forget ! 7 refl $
-          move ! (25 ∷ 26 ∷ []) $ free1 ! $ move ! (23 ∷ 24 ∷ []) $ free1 ! $ move ! (21 ∷ 22 ∷ []) $ free1 ! $ move ! (19 ∷ 20 ∷ []) $ free1 ! $ move ! (17 ∷ 18 ∷ []) $ free1 ! $ move ! (15 ∷ 16 ∷ []) $ free1 ! $ move ! (13 ∷ 14 ∷ []) $ free1 ! $ move ! (11 ∷ 12 ∷ []) $ free1 ! $ move ! (9 ∷ 10 ∷ []) $ free1 ! $ move ! (7 ∷ 8 ∷ []) $ free1 ! $ free0 ! $ keep ! (0 ∷ 1 ∷ 2 ∷ 4 ∷ 3 ∷ 6 ∷ 5 ∷ []) $ by ! (ends r ws.1.1.0 l₁ (O.ans_is r _ is) (ap O.ans e.0 ∙ ans_is h a₁.now a₂ a₃.now, e.2 ∙ last_is₁ h a₁.now a₂ a₃.now))))))))))))))))))))))
+          move ! (0 ∷ 5 ∷ 6 ∷ 7 ∷ []) $ close_ref ! tt (mem Row) (next h a₁.now a₂ a₃.now) {b = b} {o = o} $ returns ! (look ! 27 refl) $ forget ! 27 refl $ forget ! 25 refl $ forget ! 23 refl $ forget ! 21 refl $ forget ! 19 refl $ forget ! 17 refl $ forget ! 15 refl $ forget ! 13 refl $ forget ! 11 refl $ forget ! 9 refl $ forget ! 7 refl $
+          move ! (27 ∷ 28 ∷ []) $ free1 ! $ move ! (25 ∷ 26 ∷ []) $ free1 ! $ move ! (23 ∷ 24 ∷ []) $ free1 ! $ move ! (21 ∷ 22 ∷ []) $ free1 ! $ move ! (19 ∷ 20 ∷ []) $ free1 ! $ move ! (17 ∷ 18 ∷ []) $ free1 ! $ move ! (15 ∷ 16 ∷ []) $ free1 ! $ move ! (13 ∷ 14 ∷ []) $ free1 ! $ move ! (11 ∷ 12 ∷ []) $ free1 ! $ move ! (9 ∷ 10 ∷ []) $ free1 ! $ move ! (7 ∷ 8 ∷ []) $ free1 ! $ free0 ! $ keep ! (0 ∷ 1 ∷ 2 ∷ 4 ∷ 3 ∷ 6 ∷ 5 ∷ []) $ by ! (ends r (ws.1.1.0) l₁ (O.ans_is r _ is) (ap O.ans (e.0) ∙ ans_is h a₁.now a₂ a₃.now, e.2 ∙ last_is₁ h a₁.now a₂ a₃.now)))))))))))))))))))))))
 
   walks : {M : Type 1} {𝓤 : Ura M} (𝓛 : Logic 𝓤) (C : Calls 𝓤 𝓛.H) (Λ : Loops 𝓤 𝓛.H) → FmC 𝓤 𝓛.H 𝓛.laws C → Triple 𝓤 (C key) (Callee 𝓛) → Walks 𝓛 ended stayed (WpFn 𝓤 𝓛.H C Λ function) (clauses 𝓛)
   walks {𝓤 = 𝓤} 𝓛 C Λ fm known = walked 𝓛 ended stayed (clauses 𝓛) (WpFn 𝓤 𝓛.H C Λ function) (λ κs. (mut_vals, (mut_slice_vals, ((λ y. A₂.val y ∷ []), (shr_slice_vals, tt))))) (λ κs. (mut_Tells (named 0) κs.0 Row, (mut_slice_Tells (named 1) κs.1.0 (row_of A₁), (A₂.tells, (shr_slice_Tells (named 2) κs.1.1.0 (row_of A₃), tt)))))

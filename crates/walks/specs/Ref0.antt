@@ -3,11 +3,11 @@
 use Rattle.std.specs.Prelude.{◌≡◌, refl, ℕ, [], ◌∷◌, List, T as Holds}
 use Rattle.std.proofs.Common.{sym, ap, subst}
 use seplogic.Ra.Ura.{Ura}
-use seplogic.Ra.TreeShare.{full_share}
-use mir.Syntax.{Name, Ty, Fn, named, imm, ty_ref, local, value_local, place, deref, copy, rv_opd, seq, assign, call, return}
+use base.Fraction.{full_share}
+use mir.Syntax.{Callee as Name, Ty, Fn, named, imm, ty_ref, local, value_local, place, deref, copy, rv_opd, seq, assign, call, return}
 use mir.Val.{Val, vptr, WT, has_ty}
 use base.Logic.{SProp, ent, emp, via, fst∗, id⊢}
-use base.Fml.{GName, Lft, Share, ftrue, flft, fres, fshr_bor, fat}
+use base.Fml.{Lft, Share, ftrue, flft, fat}
 use prog.Model.{Model}
 use prog.Routine.{Routine, Env}
 use prog.Wp.{Calls, Loops, Closed, WpFn, Tables}
@@ -15,13 +15,13 @@ use types.Logic.{Logic}
 use contract.Lifetimes.{Lfts}
 use contract.Monad.{fact}
 use contract.Running.{Running, tables, tables_of}
-use types.Kit.{‵, raw, ◌⊛◌, ⋆, some, later, ◌$◌, ◌∵◌, !, qed, by, move, keep, drop, use0, use1, split, join, pick, rewrite, fsplit, fsplit3, fjoin, fjoin3, feq_i, suffices, frame, await, done}
+use types.Kit.{‵, raw, ◌⊛◌, ⋆, some, later, ◌$◌, ◌∵◌, !, qed, by, move, keep, drop, use0, use1, split, join, pick, rewrite, fsplit, fjoin, feq_i, suffices, frame, await, done}
 use types.Run.{look, look_raw, init, forget, stop, hop, from, load, of_opd, and_then, no_more, assigns, land, returns, enter, alloc1, alloc0, params1, pass1, pass0, free1, free0}
 use sound.WpLaws.{FmC, fm_of, WpFn-mono}
 use denote.RattleType.{owns}
 use denote.Shadow.{makes_shadow}
 use denote.Laws.{Is, Makes, shows}
-use denote.Memory.{part_at, pointee}
+use denote.Memory.{hidden_shr, pointee}
 use denote.Builtin.{RefOf}
 use denote.Ref.{Bor, ShrRef, shr_vals, shr_Tells}
 use denote.Signature.{Signature, plain}
@@ -50,6 +50,8 @@ module _ (S : State) (Ans : Arg) (key : Name) (spec : S.T.D → Ans.X) where
   function = record {
     lifetimes = 1;
     outlives = [];
+    ty_params = [];
+    givens = 0;
     params = 1;
     locals = local Ans.ty value_local ∷ local (ty_ref (named 0) imm (pointee (state_row S).written)) value_local ∷ local τS value_local ∷ [];
     body = seq (assign (place 2 []) (rv_opd (copy (place 1 (deref τS ∷ []))))) (seq (call key (copy (place 2 []) ∷ []) (place 0 [])) return);
@@ -90,7 +92,7 @@ module _ (S : State) (Ans : Arg) (key : Name) (spec : S.T.D → Ans.X) where
   made : {M : Type 1} {𝓤 : Ura M} (𝓛 : Logic 𝓤) (B : Arg) → Makes 𝓛 (row_of B) (Is (row_of B))
   made 𝓛 B x vs p = makes_shadow 𝓛 (B.own x vs) (B.pure x vs) p
 
-  module _ {M : Type 1} {𝓤 : Ura M} (𝓛 : Logic 𝓤) (κ : Lft) (q : Share) (b o : ℕ) (γ : GName) (h : S.T.D) where
+  module _ {M : Type 1} {𝓤 : Ura M} (𝓛 : Logic 𝓤) (κ : Lft) (q : Share) (b o : ℕ) (h : S.T.D) where
     open 𝓛 use {H}
 
     abbrev Xs : Type 0
@@ -120,11 +122,11 @@ module _ (S : State) (Ans : Arg) (key : Name) (spec : S.T.D → Ans.X) where
     asked : Is (state_row S) h (mach h ∷ []) → ent 𝓤 (⋆ 𝓛 ([])) ((Callee 𝓛).pre to)
     asked was = qed 𝓛 ([]) ∵ nothing ! $ owned ! (state_row S) (Is (state_row S)) (LL.makes S.T S.plain 𝓛) h _ was $ fjoin ! $ nothing ! $ join ! $ frame ! $ nothing ! $ done !
 
-    ends : (r : Ans.X) (is : Is (row_of Ans) (r) (Ans.val r ∷ [])) → r ≡ spec h → ent 𝓤 (⋆ 𝓛 (‵ (fres γ ((state_row S).coded.code h)) ∷ ‵ (fshr_bor κ (λ s. part_at (state_row S) s h b o)) ∷ ‵ (flft κ q) ∷ [])) (After (Ans.val r))
+    ends : (r : Ans.X) (is : Is (row_of Ans) (r) (Ans.val r ∷ [])) → r ≡ spec h → ent 𝓤 (⋆ 𝓛 (‵ (hidden_shr (state_row S) κ h b o) ∷ ‵ (flft κ q) ∷ [])) (After (Ans.val r))
     ends r is e =
-        qed 𝓛 (‵ (fres γ ((state_row S).coded.code h)) ∷ ‵ (fshr_bor κ (λ s. part_at (state_row S) s h b o)) ∷ ‵ (flft κ q) ∷ []) ∵
+        qed 𝓛 (‵ (hidden_shr (state_row S) κ h b o) ∷ ‵ (flft κ q) ∷ []) ∵
         suffices ! _ (ends_at 𝓛 ended stayed (clauses 𝓛) (((κ, tt), (q, tt), tt, x, at), tt) (Ans.val r) (r) (tt, tt) (tt, tt)) $ says ! e $
-        nothing ! $ move ! (3 ∷ 0 ∷ []) $ join ! $ frame ! $ feq_i ! (List Val) (vptr b o ∷ []) (vptr b o ∷ []) refl $ fjoin3 ! $ nothing ! $ move ! (1 ∷ 0 ∷ []) $ fjoin ! $ owned ! (row_of Ans) (Is (row_of Ans)) (made 𝓛 Ans) (r) _ is $ move ! (1 ∷ 0 ∷ []) $ done !
+        nothing ! $ move ! (2 ∷ 0 ∷ []) $ join ! $ frame ! $ feq_i ! (List Val) (vptr b o ∷ []) (vptr b o ∷ []) refl $ fjoin ! $ nothing ! $ move ! (1 ∷ 0 ∷ []) $ fjoin ! $ owned ! (row_of Ans) (Is (row_of Ans)) (made 𝓛 Ans) (r) _ is $ move ! (1 ∷ 0 ∷ []) $ done !
 
     again : (r : Ans.X) (v : Val) → Is (row_of Ans) r (v ∷ []) → Is (row_of Ans) r (Ans.val r ∷ [])
     again r v is = subst (λ (us : List Val). Is (row_of Ans) r us) (Ans.tells r _ is) is
@@ -137,19 +139,19 @@ module _ (S : State) (Ans : Arg) (key : Name) (spec : S.T.D → Ans.X) where
       walk =
           qed 𝓛 ((‵ (flft κ q) ⊛ ‵ ftrue) ∷ ‵ (owns (ShrRef (named 0) κ (state_row S) ∷ []) x at) ∷ []) ∵ enter ! C Λ function (vptr b o ∷ []) _ $
           alloc1 ! (λ b₀. alloc1 ! (λ b₁. alloc1 ! (λ b₂. alloc0 ! $ params1 ! $ pass1 ! (init ! 2 refl (tt, tt)) $ pass0 ! $
-          move ! (7 ∷ []) $ fsplit ! $ move ! (1 ∷ []) $ drop ! $ fsplit3 ! $ drop ! $ move ! (8 ∷ []) $ split ! $ move ! (1 ∷ []) $ drop ! $
-          move ! (2 ∷ 0 ∷ []) $ looks ! tt (state_row S) (Is (state_row S)) (shows 𝓛 (state_row S)) (LL.vals S.T S.L) (LL.tells S.T S.L) (LL.copy S.T S.copy 𝓛) h b o (λ q' vs. spelt ! (state_row S) (Is (state_row S)) (shows 𝓛 (state_row S)) (LL.vals S.T S.L) (LL.tells S.T S.L) q' h vs b o $ move ! (1 ∷ []) $ peeks ! (state_row S) (Is (state_row S)) (shows 𝓛 (state_row S)) h (mach h ∷ []) (λ was.
-          assigns ! (of_opd ! (load ! (from ! (hop ! (look ! 7 refl) (stop !))) (look_raw ! 1 refl))) (from ! (stop !)) (init ! 5 refl ((LL.lawful S.T S.L 𝓛).typed h _ was).0) $
-          use0 𝓛 (raw ((Callee 𝓛).pre to)) (asked was) $ calls_at ! fm (Callee 𝓛) known to (and_then ! (load ! (from ! (stop !)) (look ! 6 refl)) (no_more !)) (λ v.
+          move ! (7 ∷ []) $ fsplit ! $ move ! (1 ∷ []) $ drop ! $ fsplit ! $ drop ! $ move ! (7 ∷ []) $ split ! $ move ! (1 ∷ []) $ drop ! $
+          move ! (1 ∷ 0 ∷ []) $ looks ! tt (state_row S) (LL.copied S.T S.copy 𝓛).opens h b o (λ q' vs. spelt ! (state_row S) (Is (state_row S)) (shows 𝓛 (state_row S)) (LL.vals S.T S.L) (LL.tells S.T S.L) q' h vs b o $ move ! (1 ∷ []) $ peeks ! (state_row S) (Is (state_row S)) (shows 𝓛 (state_row S)) h (mach h ∷ []) (λ was.
+          assigns ! (of_opd ! (load ! (from ! (hop ! (look ! 6 refl) (stop !))) (look_raw ! 1 refl))) (from ! (stop !)) (init ! 4 refl (((LL.lawful S.T S.L 𝓛).typed h _ was).0)) $
+          use0 𝓛 (raw ((Callee 𝓛).pre to)) (asked was) $ calls_at ! fm (Callee 𝓛) known to (and_then ! (load ! (from ! (stop !)) (look ! 5 refl)) (no_more !)) (λ v.
           use1 𝓛 (later (some (λ (r : Ans.X). ((‵ ftrue) ⊛ ‵ ((row_of Ans).own_val r (v ∷ []))) ⊛ raw (Said r)))) (id⊢ 𝓤 _) $ await ! tt $ pick ! (λ r. split ! $ move ! (1 ∷ []) $ use1 𝓛 (some (λ (ws : Fins tt callee.params (yes, tt) (h, tt)). ‵ (lasts_of tt callee.params (yes, tt) (h, tt) ws) ⊛ raw (fact 𝓤 (r ≡ spec h)))) (id⊢ 𝓤 _) $ pick ! (λ ws. split ! $ move ! (1 ∷ []) $ heard ! (r ≡ spec h) (λ e. drop ! $ split ! $ drop ! $ peeks ! (row_of Ans) (Is (row_of Ans)) (shows 𝓛 (row_of Ans)) r (v ∷ []) (λ is.
-          land ! (from ! (stop !)) (init ! 10 refl (typed_ans r v is)) $ rewrite ! 10 (λ (u : Val). ‵ (fat full_share Ans.ty b₀ 0 u)) (ap only (Ans.tells r _ is)) refl $
+          land ! (from ! (stop !)) (init ! 9 refl (typed_ans r v is)) $ rewrite ! 9 (λ (u : Val). ‵ (fat full_share Ans.ty b₀ 0 u)) (ap only (Ans.tells r _ is)) refl $
           drop ! $ move ! (1 ∷ 0 ∷ 2 ∷ []) $ shuts ! tt (state_row S) q' h (mach h ∷ []) b o $
-          returns ! (look ! 7 refl) $ forget ! 7 refl $ forget ! 5 refl $ forget ! 3 refl $
-          move ! (7 ∷ 8 ∷ []) $ free1 ! $ move ! (5 ∷ 6 ∷ []) $ free1 ! $ move ! (3 ∷ 4 ∷ []) $ free1 ! $ free0 ! $ keep ! (2 ∷ 1 ∷ 0 ∷ []) $ by ! (ends r (again r v is) e)))))))))))
+          returns ! (look ! 6 refl) $ forget ! 6 refl $ forget ! 4 refl $ forget ! 2 refl $
+          move ! (6 ∷ 7 ∷ []) $ free1 ! $ move ! (4 ∷ 5 ∷ []) $ free1 ! $ move ! (2 ∷ 3 ∷ []) $ free1 ! $ free0 ! $ keep ! (1 ∷ 0 ∷ []) $ by ! (ends r (again r v is) e)))))))))))
 
   walks : {M : Type 1} {𝓤 : Ura M} (𝓛 : Logic 𝓤) (C : Calls 𝓤 𝓛.H) (Λ : Loops 𝓤 𝓛.H) → FmC 𝓤 𝓛.H 𝓛.laws C → Triple 𝓤 (C key) (Callee 𝓛) → Walks 𝓛 ended stayed (WpFn 𝓤 𝓛.H C Λ function) (clauses 𝓛)
   walks {𝓤 = 𝓤} 𝓛 C Λ fm known = walked 𝓛 ended stayed (clauses 𝓛) (WpFn 𝓤 𝓛.H C Λ function) (λ κs. (shr_vals, tt)) (λ κs. (shr_Tells (named 0) κs.0 (state_row S), tt))
-      (λ κs qs bounds a g are. via 𝓤 _ (fst∗ 𝓤 _ (emp 𝓤)) (walk 𝓛 κs.0 qs.0 a.0.ref_ptr.0 a.0.ref_ptr.1 a.0.ghost_name a.0.now C Λ fm known))
+      (λ κs qs bounds a g are. via 𝓤 _ (fst∗ 𝓤 _ (emp 𝓤)) (walk 𝓛 κs.0 qs.0 a.0.ref_ptr.0 a.0.ref_ptr.1 a.0.now C Λ fm known))
 
   meets : {M : Type 1} {𝓤 : Ura M} (𝓛 : Logic 𝓤) (𝓣 : Tables 𝓤 𝓛.H) → Triple 𝓤 (𝓣.C key) (Callee 𝓛) → Meets 𝓛 signature (WpFn 𝓤 𝓛.H 𝓣.C 𝓣.Λ function) (closing 𝓛 ended (clauses 𝓛))
   meets {𝓤 = 𝓤} 𝓛 𝓣 known = walk_Meets 𝓛 ended stayed (Goes-none_ref 𝓛 1 (0 ∷ []) tt (plain (λ _. state_row S)) yes, tt) (clauses 𝓛) (WpFn 𝓤 𝓛.H 𝓣.C 𝓣.Λ function) (WpFn-mono 𝓤 𝓛.H 𝓛.laws 𝓣 function)

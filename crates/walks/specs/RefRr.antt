@@ -3,11 +3,11 @@
 use Rattle.std.specs.Prelude.{◌≡◌, refl, ℕ, [], ◌∷◌, List, T as Holds}
 use Rattle.std.proofs.Common.{sym, ap, subst}
 use seplogic.Ra.Ura.{Ura}
-use seplogic.Ra.TreeShare.{full_share}
-use mir.Syntax.{Name, Ty, Fn, named, erased, imm, mut, ty_ref, local, value_local, place, deref, copy, rv_opd, addr_of, seq, assign, call, return}
+use base.Fraction.{full_share}
+use mir.Syntax.{Callee as Name, Ty, Fn, named, erased, imm, mut, ty_ref, local, value_local, place, deref, copy, rv_opd, addr_of, seq, assign, call, return}
 use mir.Val.{Val, vptr, WT, has_ty}
 use base.Logic.{SProp, ent, emp, via, fst∗, id⊢}
-use base.Fml.{GName, Lft, Share, ftrue, flft, fres, fshr_bor, fat}
+use base.Fml.{Lft, Share, ftrue, fsep, flft, fbor, fres, fat}
 use prog.Model.{Model}
 use prog.Routine.{Routine, Env}
 use prog.Wp.{Calls, Loops, Closed, WpFn, Tables}
@@ -15,15 +15,16 @@ use types.Logic.{Logic}
 use contract.Lifetimes.{Lfts}
 use contract.Monad.{fact}
 use contract.Running.{Running, tables, tables_of}
-use types.Kit.{‵, raw, ◌⊛◌, ⋆, some, later, ◌$◌, ◌∵◌, !, qed, by, move, keep, drop, use1, split, join, pick, rewrite, fsplit, fsplit3, fjoin, fjoin3, feq_i, suffices, frame, await, done}
+use types.Kit.{‵, raw, ◌⊛◌, ⋆, some, later, ◌$◌, ◌∵◌, !, qed, by, move, keep, drop, use1, split, join, pick, rewrite, fsplit, fjoin, feq_i, suffices, frame, await, done}
 use types.Run.{look, look_raw, init, forget, stop, hop, from, load, addr, of_opd, and_then, no_more, assigns, land, returns, enter, alloc1, alloc0, params1, pass1, pass0, free1, free0}
+use types.SemTy.{Body}
 use sound.WpLaws.{FmC, fm_of, WpFn-mono}
 use denote.RattleType.{owns}
 use denote.Shadow.{makes_shadow}
 use denote.Laws.{Is, Makes, shows}
-use denote.Memory.{part_at, pointee}
+use denote.Memory.{mem, hidden_shr, pointee}
 use denote.Builtin.{RefOf, RefMutOf}
-use denote.Ref.{MutBor, MutRef, ShrRef, shr_vals, mut_vals, mut_Tells, shr_Tells}
+use denote.Ref.{Bor, MutBor, MutRef, ShrRef, shr_vals, mut_vals, mut_Tells, shr_Tells}
 use denote.Signature.{Signature, plain}
 use denote.Exit.{yes}
 use denote.Steps.{only, looks, shuts, owned, peeks, heard, nothing}
@@ -50,6 +51,8 @@ module _ (S : State) (A₁ A₂ : Arg) (Ans : Arg) (key : Name) (spec : S.T.D �
   function = record {
     lifetimes = 3;
     outlives = [];
+    ty_params = [];
+    givens = 0;
     params = 3;
     locals = local Ans.ty value_local ∷ local (ty_ref (named 0) imm (pointee (state_row S).written)) value_local ∷ local (ty_ref (named 1) mut A₁.ty) value_local ∷ local (ty_ref (named 2) mut A₂.ty) value_local ∷ local τS value_local ∷ local (ty_ref erased mut A₁.ty) value_local ∷ local (ty_ref erased mut A₂.ty) value_local ∷ [];
     body = seq (assign (place 4 []) (rv_opd (copy (place 1 (deref τS ∷ []))))) (seq (assign (place 5 []) (addr_of (place 2 (deref A₁.ty ∷ [])))) (seq (assign (place 6 []) (addr_of (place 3 (deref A₂.ty ∷ [])))) (seq (call key (copy (place 4 []) ∷ copy (place 5 []) ∷ copy (place 6 []) ∷ []) (place 0 [])) return)));
@@ -90,17 +93,17 @@ module _ (S : State) (A₁ A₂ : Arg) (Ans : Arg) (key : Name) (spec : S.T.D �
   made : {M : Type 1} {𝓤 : Ura M} (𝓛 : Logic 𝓤) (B : Arg) → Makes 𝓛 (row_of B) (Is (row_of B))
   made 𝓛 B x vs p = makes_shadow 𝓛 (B.own x vs) (B.pure x vs) p
 
-  module _ {M : Type 1} {𝓤 : Ura M} (𝓛 : Logic 𝓤) (κ : Lft) (q : Share) (κ₁ : Lft) (q₁ : Share) (κ₂ : Lft) (q₂ : Share) (b o : ℕ) (γ : GName) (h : S.T.D) (a₁ : MutBor A₁.X) (a₂ : MutBor A₂.X) (p₁ : Is (MutRef (named 1) κ₁ (row_of A₁)) a₁ (vptr a₁.ref_ptr.0 a₁.ref_ptr.1 ∷ [])) (p₂ : Is (MutRef (named 2) κ₂ (row_of A₂)) a₂ (vptr a₂.ref_ptr.0 a₂.ref_ptr.1 ∷ [])) where
+  module _ {M : Type 1} {𝓤 : Ura M} (𝓛 : Logic 𝓤) (κ : Lft) (q : Share) (κ₁ : Lft) (q₁ : Share) (κ₂ : Lft) (q₂ : Share) (b o : ℕ) (h : S.T.D) (a₁ : MutBor A₁.X) (a₂ : MutBor A₂.X) (p₁ : Is (MutRef (named 1) κ₁ (row_of A₁)) a₁ (vptr a₁.ref_ptr.0 a₁.ref_ptr.1 ∷ [])) (p₂ : Is (MutRef (named 2) κ₂ (row_of A₂)) a₂ (vptr a₂.ref_ptr.0 a₂.ref_ptr.1 ∷ [])) where
     open 𝓛 use {H}
 
     abbrev Xs : Type 0
-    Xs = MutBor S.T.D × (MutBor A₁.X × (MutBor A₂.X × Unit {0}))
+    Xs = Bor S.T.D × (MutBor A₁.X × (MutBor A₂.X × Unit {0}))
 
     abbrev Vs : Type 0
     Vs = List Val × (List Val × (List Val × Unit {0}))
 
     abbrev x : Xs
-    x = (record { ref_ptr = (b, o); ghost_name = γ; now = h }, (a₁, (a₂, tt)))
+    x = (record { ref_ptr = (b, o); now = h }, (a₁, (a₂, tt)))
 
     abbrev at : Vs
     at = (vptr b o ∷ [], (vptr a₁.ref_ptr.0 a₁.ref_ptr.1 ∷ [], (vptr a₂.ref_ptr.0 a₂.ref_ptr.1 ∷ [], tt)))
@@ -120,11 +123,11 @@ module _ (S : State) (A₁ A₂ : Arg) (Ans : Arg) (key : Name) (spec : S.T.D �
     asked : Is (state_row S) h (mach h ∷ []) → ent 𝓤 (⋆ 𝓛 (‵ (flft κ₁ q₁) ∷ ‵ (flft κ₂ q₂) ∷ ‵ ((MutRef (named 1) κ₁ (row_of A₁)).own_val a₁ (vptr a₁.ref_ptr.0 a₁.ref_ptr.1 ∷ [])) ∷ ‵ ((MutRef (named 2) κ₂ (row_of A₂)).own_val a₂ (vptr a₂.ref_ptr.0 a₂.ref_ptr.1 ∷ [])) ∷ [])) ((Callee 𝓛).pre to)
     asked was = qed 𝓛 (‵ (flft κ₁ q₁) ∷ ‵ (flft κ₂ q₂) ∷ ‵ ((MutRef (named 1) κ₁ (row_of A₁)).own_val a₁ (vptr a₁.ref_ptr.0 a₁.ref_ptr.1 ∷ [])) ∷ ‵ ((MutRef (named 2) κ₂ (row_of A₂)).own_val a₂ (vptr a₂.ref_ptr.0 a₂.ref_ptr.1 ∷ [])) ∷ []) ∵ nothing ! $ move ! (4 ∷ 0 ∷ []) $ fjoin ! $ move ! (3 ∷ 0 ∷ []) $ fjoin ! $ owned ! (state_row S) (Is (state_row S)) (LL.makes S.T S.plain 𝓛) h _ was $ fjoin ! $ nothing ! $ move ! (3 ∷ 0 ∷ []) $ join ! $ move ! (2 ∷ 0 ∷ []) $ join ! $ join ! $ frame ! $ nothing ! $ done !
 
-    ends : (r : Ans.X) (z₁ : A₁.X) (z₂ : A₂.X) (is : Is (row_of Ans) (r) (Ans.val r ∷ [])) → (r ≡ spec h a₁.now a₂.now) × (z₁ ≡ fill₁ h a₁.now a₂.now) × (z₂ ≡ fill₂ h a₁.now a₂.now) → ent 𝓤 (⋆ 𝓛 (‵ (fres γ ((state_row S).coded.code h)) ∷ ‵ (fshr_bor κ (λ s. part_at (state_row S) s h b o)) ∷ ‵ (flft κ q) ∷ ‵ (flft κ₁ q₁) ∷ ‵ (flft κ₂ q₂) ∷ ‵ (fres a₁.ghost_name ((row_of A₁).coded.code z₁)) ∷ ‵ (fres a₂.ghost_name ((row_of A₂).coded.code z₂)) ∷ [])) (After (Ans.val r))
+    ends : (r : Ans.X) (z₁ : A₁.X) (z₂ : A₂.X) (is : Is (row_of Ans) (r) (Ans.val r ∷ [])) → (r ≡ spec h a₁.now a₂.now) × (z₁ ≡ fill₁ h a₁.now a₂.now) × (z₂ ≡ fill₂ h a₁.now a₂.now) → ent 𝓤 (⋆ 𝓛 (‵ (hidden_shr (state_row S) κ h b o) ∷ ‵ (flft κ q) ∷ ‵ (flft κ₁ q₁) ∷ ‵ (flft κ₂ q₂) ∷ ‵ (fsep (fres a₁.ghost_name ((row_of A₁).coded.code z₁)) (fbor κ₁ (Body (mem (row_of A₁)) a₁.ref_ptr.0 a₁.ref_ptr.1 a₁.ghost_name))) ∷ ‵ (fsep (fres a₂.ghost_name ((row_of A₂).coded.code z₂)) (fbor κ₂ (Body (mem (row_of A₂)) a₂.ref_ptr.0 a₂.ref_ptr.1 a₂.ghost_name))) ∷ [])) (After (Ans.val r))
     ends r z₁ z₂ is e =
-        qed 𝓛 (‵ (fres γ ((state_row S).coded.code h)) ∷ ‵ (fshr_bor κ (λ s. part_at (state_row S) s h b o)) ∷ ‵ (flft κ q) ∷ ‵ (flft κ₁ q₁) ∷ ‵ (flft κ₂ q₂) ∷ ‵ (fres a₁.ghost_name ((row_of A₁).coded.code z₁)) ∷ ‵ (fres a₂.ghost_name ((row_of A₂).coded.code z₂)) ∷ []) ∵
+        qed 𝓛 (‵ (hidden_shr (state_row S) κ h b o) ∷ ‵ (flft κ q) ∷ ‵ (flft κ₁ q₁) ∷ ‵ (flft κ₂ q₂) ∷ ‵ (fsep (fres a₁.ghost_name ((row_of A₁).coded.code z₁)) (fbor κ₁ (Body (mem (row_of A₁)) a₁.ref_ptr.0 a₁.ref_ptr.1 a₁.ghost_name))) ∷ ‵ (fsep (fres a₂.ghost_name ((row_of A₂).coded.code z₂)) (fbor κ₂ (Body (mem (row_of A₂)) a₂.ref_ptr.0 a₂.ref_ptr.1 a₂.ghost_name))) ∷ []) ∵
         suffices ! _ (ends_at 𝓛 ended stayed (clauses 𝓛) (((κ, (κ₁, (κ₂, tt))), (q, (q₁, (q₂, tt))), tt, x, at), tt) (Ans.val r) (r) (tt, (z₁, (z₂, tt))) (tt, (tt, (tt, tt)))) $ says ! (e.0, e.1, e.2) $
-        nothing ! $ move ! (5 ∷ 0 ∷ []) $ join ! $ move ! (4 ∷ 0 ∷ []) $ join ! $ move ! (3 ∷ 0 ∷ []) $ join ! $ frame ! $ feq_i ! (List Val) (vptr b o ∷ []) (vptr b o ∷ []) refl $ fjoin3 ! $ nothing ! $ move ! (3 ∷ 0 ∷ []) $ fjoin ! $ move ! (2 ∷ 0 ∷ []) $ fjoin ! $ move ! (1 ∷ 0 ∷ []) $ fjoin ! $ owned ! (row_of Ans) (Is (row_of Ans)) (made 𝓛 Ans) (r) _ is $ move ! (1 ∷ 0 ∷ []) $ done !
+        nothing ! $ move ! (4 ∷ 0 ∷ []) $ join ! $ move ! (3 ∷ 0 ∷ []) $ join ! $ move ! (2 ∷ 0 ∷ []) $ join ! $ frame ! $ feq_i ! (List Val) (vptr b o ∷ []) (vptr b o ∷ []) refl $ fjoin ! $ nothing ! $ move ! (3 ∷ 0 ∷ []) $ fjoin ! $ move ! (2 ∷ 0 ∷ []) $ fjoin ! $ move ! (1 ∷ 0 ∷ []) $ fjoin ! $ owned ! (row_of Ans) (Is (row_of Ans)) (made 𝓛 Ans) (r) _ is $ move ! (1 ∷ 0 ∷ []) $ done !
 
     again : (r : Ans.X) (v : Val) → Is (row_of Ans) r (v ∷ []) → Is (row_of Ans) r (Ans.val r ∷ [])
     again r v is = subst (λ (us : List Val). Is (row_of Ans) r us) (Ans.tells r _ is) is
@@ -137,21 +140,21 @@ module _ (S : State) (A₁ A₂ : Arg) (Ans : Arg) (key : Name) (spec : S.T.D �
       walk =
           qed 𝓛 ((‵ (flft κ q) ⊛ ‵ (flft κ₁ q₁) ⊛ ‵ (flft κ₂ q₂) ⊛ ‵ ftrue) ∷ ‵ (owns (ShrRef (named 0) κ (state_row S) ∷ MutRef (named 1) κ₁ (row_of A₁) ∷ MutRef (named 2) κ₂ (row_of A₂) ∷ []) x at) ∷ []) ∵ enter ! C Λ function (vptr b o ∷ vptr a₁.ref_ptr.0 a₁.ref_ptr.1 ∷ vptr a₂.ref_ptr.0 a₂.ref_ptr.1 ∷ []) _ $
           alloc1 ! (λ b₀. alloc1 ! (λ b₁. alloc1 ! (λ b₂. alloc1 ! (λ b₃. alloc1 ! (λ b₄. alloc1 ! (λ b₅. alloc1 ! (λ b₆. alloc0 ! $ params1 ! $ pass1 ! (init ! 10 refl (tt, tt)) $ pass1 ! (init ! 8 refl (tt, tt)) $ pass1 ! (init ! 6 refl (tt, tt)) $ pass0 ! $
-          move ! (15 ∷ []) $ fsplit ! $ move ! (1 ∷ []) $ fsplit ! $ move ! (1 ∷ []) $ fsplit ! $ move ! (1 ∷ []) $ drop ! $ move ! (2 ∷ []) $ fsplit3 ! $ drop ! $ move ! (18 ∷ []) $ split ! $ move ! (1 ∷ []) $ split ! $ move ! (1 ∷ []) $ split ! $ move ! (1 ∷ []) $ drop ! $
-          move ! (4 ∷ 2 ∷ []) $ looks ! tt (state_row S) (Is (state_row S)) (shows 𝓛 (state_row S)) (LL.vals S.T S.L) (LL.tells S.T S.L) (LL.copy S.T S.copy 𝓛) h b o (λ q' vs. spelt ! (state_row S) (Is (state_row S)) (shows 𝓛 (state_row S)) (LL.vals S.T S.L) (LL.tells S.T S.L) q' h vs b o $ move ! (1 ∷ []) $ peeks ! (state_row S) (Is (state_row S)) (shows 𝓛 (state_row S)) h (mach h ∷ []) (λ was.
-          assigns ! (of_opd ! (load ! (from ! (hop ! (look ! 19 refl) (stop !))) (look_raw ! 1 refl))) (from ! (stop !)) (init ! 13 refl ((LL.lawful S.T S.L 𝓛).typed h _ was).0) $
-          assigns ! (addr ! (from ! (hop ! (look ! 17 refl) (stop !)))) (from ! (stop !)) (init ! 11 refl (tt, tt)) $
-          assigns ! (addr ! (from ! (hop ! (look ! 15 refl) (stop !)))) (from ! (stop !)) (init ! 9 refl (tt, tt)) $
-          move ! (8 ∷ 7 ∷ []) $ join ! $ move ! (5 ∷ 0 ∷ []) $ join ! $ move ! (5 ∷ 0 ∷ []) $ join ! $ use1 𝓛 (raw ((Callee 𝓛).pre to)) (asked was) $ calls_at ! fm (Callee 𝓛) known to (and_then ! (load ! (from ! (stop !)) (look ! 10 refl)) (and_then ! (load ! (from ! (stop !)) (look ! 8 refl)) (and_then ! (load ! (from ! (stop !)) (look ! 6 refl)) (no_more !)))) (λ v.
+          move ! (15 ∷ []) $ fsplit ! $ move ! (1 ∷ []) $ fsplit ! $ move ! (1 ∷ []) $ fsplit ! $ move ! (1 ∷ []) $ drop ! $ move ! (2 ∷ []) $ fsplit ! $ drop ! $ move ! (17 ∷ []) $ split ! $ move ! (1 ∷ []) $ split ! $ move ! (1 ∷ []) $ split ! $ move ! (1 ∷ []) $ drop ! $
+          move ! (3 ∷ 2 ∷ []) $ looks ! tt (state_row S) (LL.copied S.T S.copy 𝓛).opens h b o (λ q' vs. spelt ! (state_row S) (Is (state_row S)) (shows 𝓛 (state_row S)) (LL.vals S.T S.L) (LL.tells S.T S.L) q' h vs b o $ move ! (1 ∷ []) $ peeks ! (state_row S) (Is (state_row S)) (shows 𝓛 (state_row S)) h (mach h ∷ []) (λ was.
+          assigns ! (of_opd ! (load ! (from ! (hop ! (look ! 18 refl) (stop !))) (look_raw ! 1 refl))) (from ! (stop !)) (init ! 12 refl (((LL.lawful S.T S.L 𝓛).typed h _ was).0)) $
+          assigns ! (addr ! (from ! (hop ! (look ! 16 refl) (stop !)))) (from ! (stop !)) (init ! 10 refl (tt, tt)) $
+          assigns ! (addr ! (from ! (hop ! (look ! 14 refl) (stop !)))) (from ! (stop !)) (init ! 8 refl (tt, tt)) $
+          move ! (7 ∷ 6 ∷ []) $ join ! $ move ! (5 ∷ 0 ∷ []) $ join ! $ move ! (5 ∷ 0 ∷ []) $ join ! $ use1 𝓛 (raw ((Callee 𝓛).pre to)) (asked was) $ calls_at ! fm (Callee 𝓛) known to (and_then ! (load ! (from ! (stop !)) (look ! 9 refl)) (and_then ! (load ! (from ! (stop !)) (look ! 7 refl)) (and_then ! (load ! (from ! (stop !)) (look ! 5 refl)) (no_more !)))) (λ v.
           use1 𝓛 (later (some (λ (r : Ans.X). ((‵ (flft κ₁ q₁) ⊛ ‵ (flft κ₂ q₂) ⊛ ‵ ftrue) ⊛ ‵ ((row_of Ans).own_val r (v ∷ []))) ⊛ raw (Said r)))) (id⊢ 𝓤 _) $ await ! tt $ pick ! (λ r. split ! $ move ! (1 ∷ []) $ use1 𝓛 (some (λ (ws : Fins (κ₁, (κ₂, tt)) callee.params (yes, (yes, (yes, tt))) (h, (a₁, (a₂, tt)))). ‵ (lasts_of (κ₁, (κ₂, tt)) callee.params (yes, (yes, (yes, tt))) (h, (a₁, (a₂, tt))) ws) ⊛ raw (fact 𝓤 ((r ≡ spec h a₁.now a₂.now) × (ws.1.0 ≡ fill₁ h a₁.now a₂.now) × (ws.1.1.0 ≡ fill₂ h a₁.now a₂.now))))) (id⊢ 𝓤 _) $ pick ! (λ ws. split ! $ move ! (1 ∷ []) $ heard ! ((r ≡ spec h a₁.now a₂.now) × (ws.1.0 ≡ fill₁ h a₁.now a₂.now) × (ws.1.1.0 ≡ fill₂ h a₁.now a₂.now)) (λ e. fsplit ! $ drop ! $ fsplit ! $ move ! (1 ∷ []) $ fsplit ! $ move ! (1 ∷ []) $ drop ! $ move ! (2 ∷ []) $ split ! $ split ! $ move ! (1 ∷ []) $ split ! $ move ! (1 ∷ []) $ drop ! $ move ! (2 ∷ []) $ peeks ! (row_of Ans) (Is (row_of Ans)) (shows 𝓛 (row_of Ans)) r (v ∷ []) (λ is.
-          land ! (from ! (stop !)) (init ! 22 refl (typed_ans r v is)) $ rewrite ! 22 (λ (u : Val). ‵ (fat full_share Ans.ty b₀ 0 u)) (ap only (Ans.tells r _ is)) refl $
+          land ! (from ! (stop !)) (init ! 21 refl (typed_ans r v is)) $ rewrite ! 21 (λ (u : Val). ‵ (fat full_share Ans.ty b₀ 0 u)) (ap only (Ans.tells r _ is)) refl $
           drop ! $ move ! (5 ∷ 4 ∷ 6 ∷ []) $ shuts ! tt (state_row S) q' h (mach h ∷ []) b o $
-          returns ! (look ! 19 refl) $ forget ! 19 refl $ forget ! 17 refl $ forget ! 15 refl $ forget ! 13 refl $ forget ! 11 refl $ forget ! 9 refl $ forget ! 7 refl $
-          move ! (19 ∷ 20 ∷ []) $ free1 ! $ move ! (17 ∷ 18 ∷ []) $ free1 ! $ move ! (15 ∷ 16 ∷ []) $ free1 ! $ move ! (13 ∷ 14 ∷ []) $ free1 ! $ move ! (11 ∷ 12 ∷ []) $ free1 ! $ move ! (9 ∷ 10 ∷ []) $ free1 ! $ move ! (7 ∷ 8 ∷ []) $ free1 ! $ free0 ! $ keep ! (6 ∷ 5 ∷ 0 ∷ 2 ∷ 1 ∷ 4 ∷ 3 ∷ []) $ by ! (ends r ws.1.0 ws.1.1.0 (again r v is) e)))))))))))))))
+          returns ! (look ! 18 refl) $ forget ! 18 refl $ forget ! 16 refl $ forget ! 14 refl $ forget ! 12 refl $ forget ! 10 refl $ forget ! 8 refl $ forget ! 6 refl $
+          move ! (18 ∷ 19 ∷ []) $ free1 ! $ move ! (16 ∷ 17 ∷ []) $ free1 ! $ move ! (14 ∷ 15 ∷ []) $ free1 ! $ move ! (12 ∷ 13 ∷ []) $ free1 ! $ move ! (10 ∷ 11 ∷ []) $ free1 ! $ move ! (8 ∷ 9 ∷ []) $ free1 ! $ move ! (6 ∷ 7 ∷ []) $ free1 ! $ free0 ! $ keep ! (5 ∷ 0 ∷ 2 ∷ 1 ∷ 4 ∷ 3 ∷ []) $ by ! (ends r (ws.1.0) (ws.1.1.0) (again r v is) e)))))))))))))))
 
   walks : {M : Type 1} {𝓤 : Ura M} (𝓛 : Logic 𝓤) (C : Calls 𝓤 𝓛.H) (Λ : Loops 𝓤 𝓛.H) → FmC 𝓤 𝓛.H 𝓛.laws C → Triple 𝓤 (C key) (Callee 𝓛) → Walks 𝓛 ended stayed (WpFn 𝓤 𝓛.H C Λ function) (clauses 𝓛)
   walks {𝓤 = 𝓤} 𝓛 C Λ fm known = walked 𝓛 ended stayed (clauses 𝓛) (WpFn 𝓤 𝓛.H C Λ function) (λ κs. (shr_vals, (mut_vals, (mut_vals, tt)))) (λ κs. (shr_Tells (named 0) κs.0 (state_row S), (mut_Tells (named 1) κs.1.0 (row_of A₁), (mut_Tells (named 2) κs.1.1.0 (row_of A₂), tt))))
-      (λ κs qs bounds a g are. via 𝓤 _ (fst∗ 𝓤 _ (emp 𝓤)) (walk 𝓛 κs.0 qs.0 κs.1.0 qs.1.0 κs.1.1.0 qs.1.1.0 a.0.ref_ptr.0 a.0.ref_ptr.1 a.0.ghost_name a.0.now a.1.0 a.1.1.0 are.1.0 are.1.1.0 C Λ fm known))
+      (λ κs qs bounds a g are. via 𝓤 _ (fst∗ 𝓤 _ (emp 𝓤)) (walk 𝓛 κs.0 qs.0 κs.1.0 qs.1.0 κs.1.1.0 qs.1.1.0 a.0.ref_ptr.0 a.0.ref_ptr.1 a.0.now a.1.0 a.1.1.0 are.1.0 are.1.1.0 C Λ fm known))
 
   meets : {M : Type 1} {𝓤 : Ura M} (𝓛 : Logic 𝓤) (𝓣 : Tables 𝓤 𝓛.H) → Triple 𝓤 (𝓣.C key) (Callee 𝓛) → Meets 𝓛 signature (WpFn 𝓤 𝓛.H 𝓣.C 𝓣.Λ function) (closing 𝓛 ended (clauses 𝓛))
   meets {𝓤 = 𝓤} 𝓛 𝓣 known = walk_Meets 𝓛 ended stayed (Goes-none_ref 𝓛 3 (0 ∷ []) tt (plain (λ _. state_row S)) yes, (Goes-gave_ref 𝓛 3 1 tt (plain (λ _. row_of A₁)), (Goes-gave_ref 𝓛 3 2 tt (plain (λ _. row_of A₂)), tt))) (clauses 𝓛) (WpFn 𝓤 𝓛.H 𝓣.C 𝓣.Λ function) (WpFn-mono 𝓤 𝓛.H 𝓛.laws 𝓣 function)

@@ -3,11 +3,11 @@
 use Rattle.std.specs.Prelude.{◌≡◌, refl, ℕ, [], ◌∷◌, List, T as Holds, length}
 use Rattle.std.proofs.Common.{sym, ap, subst}
 use seplogic.Ra.Ura.{Ura}
-use seplogic.Ra.TreeShare.{full_share}
-use mir.Syntax.{Name, Ty, Fn, named, erased, imm, mut, ty_ref, local, value_local, place, deref, field, copy, rv_opd, addr_of, aggregate, seq, assign, call, return}
+use base.Fraction.{full_share}
+use mir.Syntax.{Callee as Name, Ty, Fn, named, erased, imm, mut, ty_ref, local, value_local, place, deref, field, copy, rv_opd, addr_of, aggregate, seq, assign, call, return}
 use mir.Val.{Val, vptr, WT, has_ty}
 use base.Logic.{SProp, ent, emp, via, fst∗, id⊢}
-use base.Fml.{GName, Lft, Share, ftrue, flft, fres, fshr_bor, fat}
+use base.Fml.{Lft, Share, ftrue, fsep, flft, fbor, fres, fat}
 use prog.Model.{Model}
 use prog.Routine.{Routine, Env}
 use prog.Wp.{Calls, Loops, Closed, WpFn, Tables}
@@ -15,16 +15,18 @@ use types.Logic.{Logic}
 use contract.Lifetimes.{Lfts}
 use contract.Monad.{fact}
 use contract.Running.{Running, tables, tables_of}
-use types.Kit.{‵, raw, ◌⊛◌, ⋆, some, later, ◌$◌, ◌∵◌, !, qed, by, move, keep, drop, use1, split, join, pick, rewrite, fsplit, fsplit3, fjoin, fjoin3, feq_l, feq_i, suffices, frame, await, done}
+use types.Kit.{‵, raw, ◌⊛◌, ⋆, some, later, ◌$◌, ◌∵◌, !, qed, by, move, keep, drop, use1, split, join, pick, rewrite, fsplit, fjoin, feq_l, feq_i, suffices, frame, await, done}
 use types.Run.{look, look_raw, init, forget, stop, hop, fld, from, load, addr, of_opd, and_then, no_more, assigns, land, returns, enter, alloc1, alloc0, params1, pass1, pass0, free1, free0}
 use types.Part.{agg, whole, sub, look_in}
+use types.SemTy.{Body, Arr}
+use types.Hole.{Holey}
 use sound.WpLaws.{FmC, fm_of, WpFn-mono}
 use denote.RattleType.{owns}
 use denote.Shadow.{makes_shadow}
 use denote.Laws.{Is, Makes, shows}
-use denote.Memory.{part_at, pointee}
+use denote.Memory.{mem, hidden_shr, pointee}
 use denote.Builtin.{RefOf, RefMutOf, SliceRefOf, SliceRefMutOf}
-use denote.Ref.{Bor, MutRef, ShrRef, shr_vals, mut_vals, mut_Tells, shr_Tells}
+use denote.Ref.{Bor, MutBor, MutRef, ShrRef, shr_vals, mut_vals, mut_Tells, shr_Tells}
 use denote.Slice.{ShrSlice, MutSlice, slice_ty, slice_val, shr_slice_vals, mut_slice_vals, finally, shr_slice_Tells, shr_slice_Lawful, shr_slice_copy, mut_slice_Tells, mut_slice_Lawful}
 use denote.Signature.{Signature, plain}
 use denote.Exit.{yes}
@@ -42,7 +44,7 @@ use denote.Triple.Table.{entered, cited}
 use denote.Triple.Walked.{says, Stays, stay_none_ref, stay_none_slice, gave_slice, gave_ref, walk_of, Goes-none_ref, Goes-none_slice, Goes-gave_slice, Goes-gave_ref, Walks, ends_at, walked, walk_Meets}
 use denote.Struct.Laws as LL
 use Rattle.common.specs.Promise.{Promise, by_value}
-use Rattle.walks.specs.Behind.{Arg, row_of, State, state_row}
+use Rattle.walks.specs.Behind.{Arg, row_of, row_laws, State, state_row}
 
 module _ (S : State) (A₁ A₂ A₃ A₄ : Arg) (Ans : Arg) (key : Name) (spec : S.T.D → List A₁.X → List A₂.X → List A₃.X → A₄.X → Ans.X) (fill₃ : S.T.D → List A₁.X → List A₂.X → List A₃.X → A₄.X → List A₃.X) (fill₄ : S.T.D → List A₁.X → List A₂.X → List A₃.X → A₄.X → A₄.X) where
   abbrev τS : Ty
@@ -52,6 +54,8 @@ module _ (S : State) (A₁ A₂ A₃ A₄ : Arg) (Ans : Arg) (key : Name) (spec 
   function = record {
     lifetimes = 5;
     outlives = [];
+    ty_params = [];
+    givens = 0;
     params = 5;
     locals = local Ans.ty value_local ∷ local (ty_ref (named 0) imm (pointee (state_row S).written)) value_local ∷ local (slice_ty (ty_ref (named 1) imm A₁.ty)) value_local ∷ local (slice_ty (ty_ref (named 2) imm A₂.ty)) value_local ∷ local (slice_ty (ty_ref (named 3) mut A₃.ty)) value_local ∷ local (ty_ref (named 4) mut A₄.ty) value_local ∷ local τS value_local ∷ local (ty_ref erased mut A₃.ty) value_local ∷ local (slice_ty (ty_ref erased mut A₃.ty)) value_local ∷ local (ty_ref erased mut A₄.ty) value_local ∷ [];
     body = seq (assign (place 6 []) (rv_opd (copy (place 1 (deref τS ∷ []))))) (seq (assign (place 7 []) (addr_of (place 4 (field 0 ∷ deref A₃.ty ∷ [])))) (seq (assign (place 8 []) (aggregate (copy (place 7 []) ∷ copy (place 4 (field 1 ∷ [])) ∷ []))) (seq (assign (place 9 []) (addr_of (place 5 (deref A₄.ty ∷ [])))) (seq (call key (copy (place 6 []) ∷ copy (place 2 []) ∷ copy (place 3 []) ∷ copy (place 8 []) ∷ copy (place 9 []) ∷ []) (place 0 [])) return))));
@@ -92,17 +96,17 @@ module _ (S : State) (A₁ A₂ A₃ A₄ : Arg) (Ans : Arg) (key : Name) (spec 
   made : {M : Type 1} {𝓤 : Ura M} (𝓛 : Logic 𝓤) (B : Arg) → Makes 𝓛 (row_of B) (Is (row_of B))
   made 𝓛 B x vs p = makes_shadow 𝓛 (B.own x vs) (B.pure x vs) p
 
-  module _ {M : Type 1} {𝓤 : Ura M} (𝓛 : Logic 𝓤) (κ : Lft) (q : Share) (κ₁ : Lft) (q₁ : Share) (κ₂ : Lft) (q₂ : Share) (κ₃ : Lft) (q₃ : Share) (κ₄ : Lft) (q₄ : Share) (b o : ℕ) (γ : GName) (h : S.T.D) (a₁ : Bor (List A₁.X)) (a₂ : Bor (List A₂.X)) (a₃ : Bor (List A₃.X)) (a₄ : Bor A₄.X) (p₁ : Is (ShrSlice (named 1) κ₁ (row_of A₁)) a₁ (slice_val a₁.ref_ptr (length a₁.now) ∷ [])) (p₂ : Is (ShrSlice (named 2) κ₂ (row_of A₂)) a₂ (slice_val a₂.ref_ptr (length a₂.now) ∷ [])) (p₃ : Is (MutSlice (named 3) κ₃ (row_of A₃)) a₃ (slice_val a₃.ref_ptr (length a₃.now) ∷ [])) (p₄ : Is (MutRef (named 4) κ₄ (row_of A₄)) a₄ (vptr a₄.ref_ptr.0 a₄.ref_ptr.1 ∷ [])) where
+  module _ {M : Type 1} {𝓤 : Ura M} (𝓛 : Logic 𝓤) (κ : Lft) (q : Share) (κ₁ : Lft) (q₁ : Share) (κ₂ : Lft) (q₂ : Share) (κ₃ : Lft) (q₃ : Share) (κ₄ : Lft) (q₄ : Share) (b o : ℕ) (h : S.T.D) (a₁ : Bor (List A₁.X)) (a₂ : Bor (List A₂.X)) (a₃ : MutBor (List A₃.X)) (a₄ : MutBor A₄.X) (p₁ : Is (ShrSlice (named 1) κ₁ (row_of A₁)) a₁ (slice_val a₁.ref_ptr (length a₁.now) ∷ [])) (p₂ : Is (ShrSlice (named 2) κ₂ (row_of A₂)) a₂ (slice_val a₂.ref_ptr (length a₂.now) ∷ [])) (p₃ : Is (MutSlice (named 3) κ₃ (row_of A₃)) a₃ (slice_val a₃.ref_ptr (length a₃.now) ∷ [])) (p₄ : Is (MutRef (named 4) κ₄ (row_of A₄)) a₄ (vptr a₄.ref_ptr.0 a₄.ref_ptr.1 ∷ [])) where
     open 𝓛 use {H}
 
     abbrev Xs : Type 0
-    Xs = Bor S.T.D × (Bor (List A₁.X) × (Bor (List A₂.X) × (Bor (List A₃.X) × (Bor A₄.X × Unit {0}))))
+    Xs = Bor S.T.D × (Bor (List A₁.X) × (Bor (List A₂.X) × (MutBor (List A₃.X) × (MutBor A₄.X × Unit {0}))))
 
     abbrev Vs : Type 0
     Vs = List Val × (List Val × (List Val × (List Val × (List Val × Unit {0}))))
 
     abbrev x : Xs
-    x = (record { ref_ptr = (b, o); ghost_name = γ; now = h }, (a₁, (a₂, (a₃, (a₄, tt)))))
+    x = (record { ref_ptr = (b, o); now = h }, (a₁, (a₂, (a₃, (a₄, tt)))))
 
     abbrev at : Vs
     at = (vptr b o ∷ [], (slice_val a₁.ref_ptr (length a₁.now) ∷ [], (slice_val a₂.ref_ptr (length a₂.now) ∷ [], (slice_val a₃.ref_ptr (length a₃.now) ∷ [], (vptr a₄.ref_ptr.0 a₄.ref_ptr.1 ∷ [], tt)))))
@@ -122,11 +126,11 @@ module _ (S : State) (A₁ A₂ A₃ A₄ : Arg) (Ans : Arg) (key : Name) (spec 
     asked : Is (state_row S) h (mach h ∷ []) → ent 𝓤 (⋆ 𝓛 (‵ (flft κ₁ q₁) ∷ ‵ (flft κ₂ q₂) ∷ ‵ (flft κ₃ q₃) ∷ ‵ (flft κ₄ q₄) ∷ ‵ ((ShrSlice (named 1) κ₁ (row_of A₁)).own_val a₁ (slice_val a₁.ref_ptr (length a₁.now) ∷ [])) ∷ ‵ ((ShrSlice (named 2) κ₂ (row_of A₂)).own_val a₂ (slice_val a₂.ref_ptr (length a₂.now) ∷ [])) ∷ ‵ ((MutSlice (named 3) κ₃ (row_of A₃)).own_val a₃ (slice_val a₃.ref_ptr (length a₃.now) ∷ [])) ∷ ‵ ((MutRef (named 4) κ₄ (row_of A₄)).own_val a₄ (vptr a₄.ref_ptr.0 a₄.ref_ptr.1 ∷ [])) ∷ [])) ((Callee 𝓛).pre to)
     asked was = qed 𝓛 (‵ (flft κ₁ q₁) ∷ ‵ (flft κ₂ q₂) ∷ ‵ (flft κ₃ q₃) ∷ ‵ (flft κ₄ q₄) ∷ ‵ ((ShrSlice (named 1) κ₁ (row_of A₁)).own_val a₁ (slice_val a₁.ref_ptr (length a₁.now) ∷ [])) ∷ ‵ ((ShrSlice (named 2) κ₂ (row_of A₂)).own_val a₂ (slice_val a₂.ref_ptr (length a₂.now) ∷ [])) ∷ ‵ ((MutSlice (named 3) κ₃ (row_of A₃)).own_val a₃ (slice_val a₃.ref_ptr (length a₃.now) ∷ [])) ∷ ‵ ((MutRef (named 4) κ₄ (row_of A₄)).own_val a₄ (vptr a₄.ref_ptr.0 a₄.ref_ptr.1 ∷ [])) ∷ []) ∵ nothing ! $ move ! (8 ∷ 0 ∷ []) $ fjoin ! $ move ! (7 ∷ 0 ∷ []) $ fjoin ! $ move ! (6 ∷ 0 ∷ []) $ fjoin ! $ move ! (5 ∷ 0 ∷ []) $ fjoin ! $ owned ! (state_row S) (Is (state_row S)) (LL.makes S.T S.plain 𝓛) h _ was $ fjoin ! $ nothing ! $ move ! (5 ∷ 0 ∷ []) $ join ! $ move ! (4 ∷ 0 ∷ []) $ join ! $ move ! (3 ∷ 0 ∷ []) $ join ! $ move ! (2 ∷ 0 ∷ []) $ join ! $ join ! $ frame ! $ nothing ! $ done !
 
-    ends : (r : Ans.X) (z₃ : List A₃.X) (l₃ : length z₃ ≡ length a₃.now) (z₄ : A₄.X) (is : Is (row_of Ans) (r) (Ans.val r ∷ [])) → (r ≡ spec h a₁.now a₂.now a₃.now a₄.now) × (z₃ ≡ fill₃ h a₁.now a₂.now a₃.now a₄.now) × (z₄ ≡ fill₄ h a₁.now a₂.now a₃.now a₄.now) → ent 𝓤 (⋆ 𝓛 (‵ (fres γ ((state_row S).coded.code h)) ∷ ‵ (fshr_bor κ (λ s. part_at (state_row S) s h b o)) ∷ ‵ (flft κ q) ∷ ‵ (flft κ₁ q₁) ∷ ‵ (flft κ₂ q₂) ∷ ‵ (flft κ₃ q₃) ∷ ‵ (flft κ₄ q₄) ∷ ‵ ((ShrSlice (named 1) κ₁ (row_of A₁)).own_val a₁ (slice_val a₁.ref_ptr (length a₁.now) ∷ [])) ∷ ‵ ((ShrSlice (named 2) κ₂ (row_of A₂)).own_val a₂ (slice_val a₂.ref_ptr (length a₂.now) ∷ [])) ∷ ‵ (finally (row_of A₃) a₃.ghost_name z₃) ∷ ‵ (fres a₄.ghost_name ((row_of A₄).coded.code z₄)) ∷ [])) (After (Ans.val r))
+    ends : (r : Ans.X) (z₃ : List A₃.X) (l₃ : length z₃ ≡ length a₃.now) (z₄ : A₄.X) (is : Is (row_of Ans) (r) (Ans.val r ∷ [])) → (r ≡ spec h a₁.now a₂.now a₃.now a₄.now) × (z₃ ≡ fill₃ h a₁.now a₂.now a₃.now a₄.now) × (z₄ ≡ fill₄ h a₁.now a₂.now a₃.now a₄.now) → ent 𝓤 (⋆ 𝓛 (‵ (hidden_shr (state_row S) κ h b o) ∷ ‵ (flft κ q) ∷ ‵ (flft κ₁ q₁) ∷ ‵ (flft κ₂ q₂) ∷ ‵ (flft κ₃ q₃) ∷ ‵ (flft κ₄ q₄) ∷ ‵ ((ShrSlice (named 1) κ₁ (row_of A₁)).own_val a₁ (slice_val a₁.ref_ptr (length a₁.now) ∷ [])) ∷ ‵ ((ShrSlice (named 2) κ₂ (row_of A₂)).own_val a₂ (slice_val a₂.ref_ptr (length a₂.now) ∷ [])) ∷ ‵ (fsep (finally (row_of A₃) a₃.ghost_name z₃) (fbor κ₃ (Body (Arr (Holey (mem (row_of A₃))) (length a₃.now)) a₃.ref_ptr.0 a₃.ref_ptr.1 a₃.ghost_name))) ∷ ‵ (fsep (fres a₄.ghost_name ((row_of A₄).coded.code z₄)) (fbor κ₄ (Body (mem (row_of A₄)) a₄.ref_ptr.0 a₄.ref_ptr.1 a₄.ghost_name))) ∷ [])) (After (Ans.val r))
     ends r z₃ l₃ z₄ is e =
-        qed 𝓛 (‵ (fres γ ((state_row S).coded.code h)) ∷ ‵ (fshr_bor κ (λ s. part_at (state_row S) s h b o)) ∷ ‵ (flft κ q) ∷ ‵ (flft κ₁ q₁) ∷ ‵ (flft κ₂ q₂) ∷ ‵ (flft κ₃ q₃) ∷ ‵ (flft κ₄ q₄) ∷ ‵ ((ShrSlice (named 1) κ₁ (row_of A₁)).own_val a₁ (slice_val a₁.ref_ptr (length a₁.now) ∷ [])) ∷ ‵ ((ShrSlice (named 2) κ₂ (row_of A₂)).own_val a₂ (slice_val a₂.ref_ptr (length a₂.now) ∷ [])) ∷ ‵ (finally (row_of A₃) a₃.ghost_name z₃) ∷ ‵ (fres a₄.ghost_name ((row_of A₄).coded.code z₄)) ∷ []) ∵
+        qed 𝓛 (‵ (hidden_shr (state_row S) κ h b o) ∷ ‵ (flft κ q) ∷ ‵ (flft κ₁ q₁) ∷ ‵ (flft κ₂ q₂) ∷ ‵ (flft κ₃ q₃) ∷ ‵ (flft κ₄ q₄) ∷ ‵ ((ShrSlice (named 1) κ₁ (row_of A₁)).own_val a₁ (slice_val a₁.ref_ptr (length a₁.now) ∷ [])) ∷ ‵ ((ShrSlice (named 2) κ₂ (row_of A₂)).own_val a₂ (slice_val a₂.ref_ptr (length a₂.now) ∷ [])) ∷ ‵ (fsep (finally (row_of A₃) a₃.ghost_name z₃) (fbor κ₃ (Body (Arr (Holey (mem (row_of A₃))) (length a₃.now)) a₃.ref_ptr.0 a₃.ref_ptr.1 a₃.ghost_name))) ∷ ‵ (fsep (fres a₄.ghost_name ((row_of A₄).coded.code z₄)) (fbor κ₄ (Body (mem (row_of A₄)) a₄.ref_ptr.0 a₄.ref_ptr.1 a₄.ghost_name))) ∷ []) ∵
         suffices ! _ (ends_at 𝓛 ended stayed (clauses 𝓛) (((κ, (κ₁, (κ₂, (κ₃, (κ₄, tt))))), (q, (q₁, (q₂, (q₃, (q₄, tt))))), tt, x, at), tt) (Ans.val r) (r) (tt, (tt, (tt, (z₃, (z₄, tt))))) (tt, (tt, (tt, (l₃, (tt, tt)))))) $ says ! (e.0, e.1, e.2) $
-        nothing ! $ move ! (7 ∷ 0 ∷ []) $ join ! $ move ! (6 ∷ 0 ∷ []) $ join ! $ move ! (5 ∷ 0 ∷ []) $ join ! $ move ! (4 ∷ 0 ∷ []) $ join ! $ move ! (3 ∷ 0 ∷ []) $ join ! $ frame ! $ feq_i ! (List Val) (vptr b o ∷ []) (vptr b o ∷ []) refl $ fjoin3 ! $ nothing ! $ move ! (5 ∷ 0 ∷ []) $ fjoin ! $ move ! (4 ∷ 0 ∷ []) $ fjoin ! $ move ! (3 ∷ 0 ∷ []) $ fjoin ! $ move ! (2 ∷ 0 ∷ []) $ fjoin ! $ move ! (1 ∷ 0 ∷ []) $ fjoin ! $ owned ! (row_of Ans) (Is (row_of Ans)) (made 𝓛 Ans) (r) _ is $ move ! (1 ∷ 0 ∷ []) $ done !
+        nothing ! $ move ! (6 ∷ 0 ∷ []) $ join ! $ move ! (5 ∷ 0 ∷ []) $ join ! $ move ! (4 ∷ 0 ∷ []) $ join ! $ move ! (3 ∷ 0 ∷ []) $ join ! $ move ! (2 ∷ 0 ∷ []) $ join ! $ frame ! $ feq_i ! (List Val) (vptr b o ∷ []) (vptr b o ∷ []) refl $ fjoin ! $ nothing ! $ move ! (5 ∷ 0 ∷ []) $ fjoin ! $ move ! (4 ∷ 0 ∷ []) $ fjoin ! $ move ! (3 ∷ 0 ∷ []) $ fjoin ! $ move ! (2 ∷ 0 ∷ []) $ fjoin ! $ move ! (1 ∷ 0 ∷ []) $ fjoin ! $ owned ! (row_of Ans) (Is (row_of Ans)) (made 𝓛 Ans) (r) _ is $ move ! (1 ∷ 0 ∷ []) $ done !
 
     again : (r : Ans.X) (v : Val) → Is (row_of Ans) r (v ∷ []) → Is (row_of Ans) r (Ans.val r ∷ [])
     again r v is = subst (λ (us : List Val). Is (row_of Ans) r us) (Ans.tells r _ is) is
@@ -138,23 +142,23 @@ module _ (S : State) (A₁ A₂ A₃ A₄ : Arg) (Ans : Arg) (key : Name) (spec 
       walk : ent 𝓤 (on_entry 𝓛 signature (κ, (κ₁, (κ₂, (κ₃, (κ₄, tt))))) (q, (q₁, (q₂, (q₃, (q₄, tt))))) x at) (WpFn 𝓤 H C Λ function (vptr b o ∷ slice_val a₁.ref_ptr (length a₁.now) ∷ slice_val a₂.ref_ptr (length a₂.now) ∷ slice_val a₃.ref_ptr (length a₃.now) ∷ vptr a₄.ref_ptr.0 a₄.ref_ptr.1 ∷ []) After)
       walk =
           qed 𝓛 ((‵ (flft κ q) ⊛ ‵ (flft κ₁ q₁) ⊛ ‵ (flft κ₂ q₂) ⊛ ‵ (flft κ₃ q₃) ⊛ ‵ (flft κ₄ q₄) ⊛ ‵ ftrue) ∷ ‵ (owns (ShrRef (named 0) κ (state_row S) ∷ ShrSlice (named 1) κ₁ (row_of A₁) ∷ ShrSlice (named 2) κ₂ (row_of A₂) ∷ MutSlice (named 3) κ₃ (row_of A₃) ∷ MutRef (named 4) κ₄ (row_of A₄) ∷ []) x at) ∷ []) ∵ enter ! C Λ function (vptr b o ∷ slice_val a₁.ref_ptr (length a₁.now) ∷ slice_val a₂.ref_ptr (length a₂.now) ∷ slice_val a₃.ref_ptr (length a₃.now) ∷ vptr a₄.ref_ptr.0 a₄.ref_ptr.1 ∷ []) _ $
-          alloc1 ! (λ b₀. alloc1 ! (λ b₁. alloc1 ! (λ b₂. alloc1 ! (λ b₃. alloc1 ! (λ b₄. alloc1 ! (λ b₅. alloc1 ! (λ b₆. alloc1 ! (λ b₇. alloc1 ! (λ b₈. alloc1 ! (λ b₉. alloc0 ! $ params1 ! $ pass1 ! (init ! 16 refl (tt, tt)) $ pass1 ! (init ! 14 refl ((shr_slice_Lawful 𝓛 (named 1) κ₁ (row_of A₁)).typed a₁ _ p₁).0) $ pass1 ! (init ! 12 refl ((shr_slice_Lawful 𝓛 (named 2) κ₂ (row_of A₂)).typed a₂ _ p₂).0) $ pass1 ! (init ! 10 refl ((mut_slice_Lawful 𝓛 (named 3) κ₃ (row_of A₃)).typed a₃ _ p₃).0) $ pass1 ! (init ! 8 refl (tt, tt)) $ pass0 ! $
-          move ! (21 ∷ []) $ fsplit ! $ move ! (1 ∷ []) $ fsplit ! $ move ! (1 ∷ []) $ fsplit ! $ move ! (1 ∷ []) $ fsplit ! $ move ! (1 ∷ []) $ fsplit ! $ move ! (1 ∷ []) $ drop ! $ move ! (4 ∷ []) $ fsplit3 ! $ drop ! $ move ! (26 ∷ []) $ split ! $ move ! (1 ∷ []) $ split ! $ move ! (1 ∷ []) $ split ! $ move ! (1 ∷ []) $ split ! $ move ! (1 ∷ []) $ split ! $ move ! (1 ∷ []) $ drop ! $
-          move ! (6 ∷ 4 ∷ []) $ looks ! tt (state_row S) (Is (state_row S)) (shows 𝓛 (state_row S)) (LL.vals S.T S.L) (LL.tells S.T S.L) (LL.copy S.T S.copy 𝓛) h b o (λ q' vs. spelt ! (state_row S) (Is (state_row S)) (shows 𝓛 (state_row S)) (LL.vals S.T S.L) (LL.tells S.T S.L) q' h vs b o $ move ! (1 ∷ []) $ peeks ! (state_row S) (Is (state_row S)) (shows 𝓛 (state_row S)) h (mach h ∷ []) (λ was.
-          assigns ! (of_opd ! (load ! (from ! (hop ! (look ! 29 refl) (stop !))) (look_raw ! 1 refl))) (from ! (stop !)) (init ! 19 refl ((LL.lawful S.T S.L 𝓛).typed h _ was).0) $
-          assigns ! (addr ! (from ! (fld ! refl (hop ! (look_in ! 23 (sub ! 0 refl (whole !))) (stop !))))) (from ! (stop !)) (init ! 17 refl (tt, tt)) $
-          assigns ! (agg ! (and_then ! (load ! (from ! (stop !)) (look ! 17 refl)) (and_then ! (load ! (from ! (fld ! refl (stop !))) (look_in ! 23 (sub ! 1 refl (whole !)))) (no_more !)))) (from ! (stop !)) (init ! 15 refl (tt, (tt, (record { fits = p₃.0.1.0 }, tt)))) $
-          assigns ! (addr ! (from ! (hop ! (look ! 21 refl) (stop !)))) (from ! (stop !)) (init ! 13 refl (tt, tt)) $
-          move ! (12 ∷ []) $ use1 𝓛 (‵ ((ShrSlice (named 1) κ₁ (row_of A₁)).own_val a₁ (slice_val a₁.ref_ptr (length a₁.now) ∷ [])) ⊛ ‵ ((ShrSlice (named 1) κ₁ (row_of A₁)).own_val a₁ (slice_val a₁.ref_ptr (length a₁.now) ∷ []))) ((shr_slice_copy 𝓛 (named 1) κ₁ (row_of A₁)).twice a₁ (slice_val a₁.ref_ptr (length a₁.now) ∷ [])) $ split ! $ move ! (13 ∷ []) $ use1 𝓛 (‵ ((ShrSlice (named 2) κ₂ (row_of A₂)).own_val a₂ (slice_val a₂.ref_ptr (length a₂.now) ∷ [])) ⊛ ‵ ((ShrSlice (named 2) κ₂ (row_of A₂)).own_val a₂ (slice_val a₂.ref_ptr (length a₂.now) ∷ []))) ((shr_slice_copy 𝓛 (named 2) κ₂ (row_of A₂)).twice a₂ (slice_val a₂.ref_ptr (length a₂.now) ∷ [])) $ split ! $ move ! (14 ∷ 13 ∷ []) $ join ! $ move ! (1 ∷ 0 ∷ []) $ join ! $ move ! (2 ∷ 0 ∷ []) $ join ! $ move ! (7 ∷ 0 ∷ []) $ join ! $ move ! (7 ∷ 0 ∷ []) $ join ! $ move ! (7 ∷ 0 ∷ []) $ join ! $ move ! (7 ∷ 0 ∷ []) $ join ! $ use1 𝓛 (raw ((Callee 𝓛).pre to)) (asked was) $ calls_at ! fm (Callee 𝓛) known to (and_then ! (load ! (from ! (stop !)) (look ! 14 refl)) (and_then ! (load ! (from ! (stop !)) (look ! 22 refl)) (and_then ! (load ! (from ! (stop !)) (look ! 20 refl)) (and_then ! (load ! (from ! (stop !)) (look ! 10 refl)) (and_then ! (load ! (from ! (stop !)) (look ! 8 refl)) (no_more !)))))) (λ v.
-          use1 𝓛 (later (some (λ (r : Ans.X). ((‵ (flft κ₁ q₁) ⊛ ‵ (flft κ₂ q₂) ⊛ ‵ (flft κ₃ q₃) ⊛ ‵ (flft κ₄ q₄) ⊛ ‵ ftrue) ⊛ ‵ ((row_of Ans).own_val r (v ∷ []))) ⊛ raw (Said r)))) (id⊢ 𝓤 _) $ await ! tt $ pick ! (λ r. split ! $ move ! (1 ∷ []) $ use1 𝓛 (some (λ (ws : Fins (κ₁, (κ₂, (κ₃, (κ₄, tt)))) callee.params (yes, (yes, (yes, (yes, (yes, tt))))) (h, (a₁, (a₂, (a₃, (a₄, tt)))))). ‵ (lasts_of (κ₁, (κ₂, (κ₃, (κ₄, tt)))) callee.params (yes, (yes, (yes, (yes, (yes, tt))))) (h, (a₁, (a₂, (a₃, (a₄, tt))))) ws) ⊛ raw (fact 𝓤 ((r ≡ spec h a₁.now a₂.now a₃.now a₄.now) × (ws.1.1.1.0 ≡ fill₃ h a₁.now a₂.now a₃.now a₄.now) × (ws.1.1.1.1.0 ≡ fill₄ h a₁.now a₂.now a₃.now a₄.now))))) (id⊢ 𝓤 _) $ pick ! (λ ws. split ! $ move ! (1 ∷ []) $ heard ! ((r ≡ spec h a₁.now a₂.now a₃.now a₄.now) × (ws.1.1.1.0 ≡ fill₃ h a₁.now a₂.now a₃.now a₄.now) × (ws.1.1.1.1.0 ≡ fill₄ h a₁.now a₂.now a₃.now a₄.now)) (λ e. fsplit ! $ drop ! $ fsplit ! $ drop ! $ fsplit ! $ drop ! $ fsplit ! $ fsplit ! $ move ! (1 ∷ []) $ feq_l ! (λ l₃. move ! (1 ∷ []) $ fsplit ! $ move ! (1 ∷ []) $ drop ! $ move ! (2 ∷ []) $ split ! $ split ! $ move ! (1 ∷ []) $ split ! $ move ! (1 ∷ []) $ split ! $ move ! (1 ∷ []) $ split ! $ move ! (1 ∷ []) $ drop ! $ move ! (4 ∷ []) $ peeks ! (row_of Ans) (Is (row_of Ans)) (shows 𝓛 (row_of Ans)) r (v ∷ []) (λ is.
-          land ! (from ! (stop !)) (init ! 32 refl (typed_ans r v is)) $ rewrite ! 32 (λ (u : Val). ‵ (fat full_share Ans.ty b₀ 0 u)) (ap only (Ans.tells r _ is)) refl $
+          alloc1 ! (λ b₀. alloc1 ! (λ b₁. alloc1 ! (λ b₂. alloc1 ! (λ b₃. alloc1 ! (λ b₄. alloc1 ! (λ b₅. alloc1 ! (λ b₆. alloc1 ! (λ b₇. alloc1 ! (λ b₈. alloc1 ! (λ b₉. alloc0 ! $ params1 ! $ pass1 ! (init ! 16 refl (tt, tt)) $ pass1 ! (init ! 14 refl (((shr_slice_Lawful 𝓛 (named 1) κ₁ (row_of A₁)).typed a₁ _ p₁).0)) $ pass1 ! (init ! 12 refl (((shr_slice_Lawful 𝓛 (named 2) κ₂ (row_of A₂)).typed a₂ _ p₂).0)) $ pass1 ! (init ! 10 refl (((mut_slice_Lawful 𝓛 (named 3) κ₃ (row_of A₃)).typed a₃ _ p₃).0)) $ pass1 ! (init ! 8 refl (tt, tt)) $ pass0 ! $
+          move ! (21 ∷ []) $ fsplit ! $ move ! (1 ∷ []) $ fsplit ! $ move ! (1 ∷ []) $ fsplit ! $ move ! (1 ∷ []) $ fsplit ! $ move ! (1 ∷ []) $ fsplit ! $ move ! (1 ∷ []) $ drop ! $ move ! (4 ∷ []) $ fsplit ! $ drop ! $ move ! (25 ∷ []) $ split ! $ move ! (1 ∷ []) $ split ! $ move ! (1 ∷ []) $ split ! $ move ! (1 ∷ []) $ split ! $ move ! (1 ∷ []) $ split ! $ move ! (1 ∷ []) $ drop ! $
+          move ! (5 ∷ 4 ∷ []) $ looks ! tt (state_row S) (LL.copied S.T S.copy 𝓛).opens h b o (λ q' vs. spelt ! (state_row S) (Is (state_row S)) (shows 𝓛 (state_row S)) (LL.vals S.T S.L) (LL.tells S.T S.L) q' h vs b o $ move ! (1 ∷ []) $ peeks ! (state_row S) (Is (state_row S)) (shows 𝓛 (state_row S)) h (mach h ∷ []) (λ was.
+          assigns ! (of_opd ! (load ! (from ! (hop ! (look ! 28 refl) (stop !))) (look_raw ! 1 refl))) (from ! (stop !)) (init ! 18 refl (((LL.lawful S.T S.L 𝓛).typed h _ was).0)) $
+          assigns ! (addr ! (from ! (fld ! refl (hop ! (look_in ! 22 (sub ! 0 refl (whole !))) (stop !))))) (from ! (stop !)) (init ! 16 refl (tt, tt)) $
+          assigns ! (agg ! (and_then ! (load ! (from ! (stop !)) (look ! 16 refl)) (and_then ! (load ! (from ! (fld ! refl (stop !))) (look_in ! 22 (sub ! 1 refl (whole !)))) (no_more !)))) (from ! (stop !)) (init ! 14 refl (tt, (tt, (record { fits = p₃.0.1.0 }, tt)))) $
+          assigns ! (addr ! (from ! (hop ! (look ! 20 refl) (stop !)))) (from ! (stop !)) (init ! 12 refl (tt, tt)) $
+          move ! (11 ∷ []) $ use1 𝓛 (‵ ((ShrSlice (named 1) κ₁ (row_of A₁)).own_val a₁ (slice_val a₁.ref_ptr (length a₁.now) ∷ [])) ⊛ ‵ ((ShrSlice (named 1) κ₁ (row_of A₁)).own_val a₁ (slice_val a₁.ref_ptr (length a₁.now) ∷ []))) ((shr_slice_copy 𝓛 (named 1) κ₁ (row_of A₁) (row_laws A₁)).twice a₁ (slice_val a₁.ref_ptr (length a₁.now) ∷ [])) $ split ! $ move ! (12 ∷ []) $ use1 𝓛 (‵ ((ShrSlice (named 2) κ₂ (row_of A₂)).own_val a₂ (slice_val a₂.ref_ptr (length a₂.now) ∷ [])) ⊛ ‵ ((ShrSlice (named 2) κ₂ (row_of A₂)).own_val a₂ (slice_val a₂.ref_ptr (length a₂.now) ∷ []))) ((shr_slice_copy 𝓛 (named 2) κ₂ (row_of A₂) (row_laws A₂)).twice a₂ (slice_val a₂.ref_ptr (length a₂.now) ∷ [])) $ split ! $ move ! (13 ∷ 12 ∷ []) $ join ! $ move ! (1 ∷ 0 ∷ []) $ join ! $ move ! (2 ∷ 0 ∷ []) $ join ! $ move ! (7 ∷ 0 ∷ []) $ join ! $ move ! (7 ∷ 0 ∷ []) $ join ! $ move ! (7 ∷ 0 ∷ []) $ join ! $ move ! (7 ∷ 0 ∷ []) $ join ! $ use1 𝓛 (raw ((Callee 𝓛).pre to)) (asked was) $ calls_at ! fm (Callee 𝓛) known to (and_then ! (load ! (from ! (stop !)) (look ! 13 refl)) (and_then ! (load ! (from ! (stop !)) (look ! 21 refl)) (and_then ! (load ! (from ! (stop !)) (look ! 19 refl)) (and_then ! (load ! (from ! (stop !)) (look ! 9 refl)) (and_then ! (load ! (from ! (stop !)) (look ! 7 refl)) (no_more !)))))) (λ v.
+          use1 𝓛 (later (some (λ (r : Ans.X). ((‵ (flft κ₁ q₁) ⊛ ‵ (flft κ₂ q₂) ⊛ ‵ (flft κ₃ q₃) ⊛ ‵ (flft κ₄ q₄) ⊛ ‵ ftrue) ⊛ ‵ ((row_of Ans).own_val r (v ∷ []))) ⊛ raw (Said r)))) (id⊢ 𝓤 _) $ await ! tt $ pick ! (λ r. split ! $ move ! (1 ∷ []) $ use1 𝓛 (some (λ (ws : Fins (κ₁, (κ₂, (κ₃, (κ₄, tt)))) callee.params (yes, (yes, (yes, (yes, (yes, tt))))) (h, (a₁, (a₂, (a₃, (a₄, tt)))))). ‵ (lasts_of (κ₁, (κ₂, (κ₃, (κ₄, tt)))) callee.params (yes, (yes, (yes, (yes, (yes, tt))))) (h, (a₁, (a₂, (a₃, (a₄, tt))))) ws) ⊛ raw (fact 𝓤 ((r ≡ spec h a₁.now a₂.now a₃.now a₄.now) × (ws.1.1.1.0 ≡ fill₃ h a₁.now a₂.now a₃.now a₄.now) × (ws.1.1.1.1.0 ≡ fill₄ h a₁.now a₂.now a₃.now a₄.now))))) (id⊢ 𝓤 _) $ pick ! (λ ws. split ! $ move ! (1 ∷ []) $ heard ! ((r ≡ spec h a₁.now a₂.now a₃.now a₄.now) × (ws.1.1.1.0 ≡ fill₃ h a₁.now a₂.now a₃.now a₄.now) × (ws.1.1.1.1.0 ≡ fill₄ h a₁.now a₂.now a₃.now a₄.now)) (λ e. fsplit ! $ drop ! $ fsplit ! $ drop ! $ fsplit ! $ drop ! $ fsplit ! $ fsplit ! $ fsplit ! $ move ! (1 ∷ []) $ feq_l ! (λ l₃. fjoin ! $ move ! (1 ∷ []) $ fsplit ! $ move ! (1 ∷ []) $ drop ! $ move ! (2 ∷ []) $ split ! $ split ! $ move ! (1 ∷ []) $ split ! $ move ! (1 ∷ []) $ split ! $ move ! (1 ∷ []) $ split ! $ move ! (1 ∷ []) $ drop ! $ move ! (4 ∷ []) $ peeks ! (row_of Ans) (Is (row_of Ans)) (shows 𝓛 (row_of Ans)) r (v ∷ []) (λ is.
+          land ! (from ! (stop !)) (init ! 31 refl (typed_ans r v is)) $ rewrite ! 31 (λ (u : Val). ‵ (fat full_share Ans.ty b₀ 0 u)) (ap only (Ans.tells r _ is)) refl $
           drop ! $ move ! (9 ∷ 8 ∷ 10 ∷ []) $ shuts ! tt (state_row S) q' h (mach h ∷ []) b o $
-          returns ! (look ! 29 refl) $ forget ! 29 refl $ forget ! 27 refl $ forget ! 25 refl $ forget ! 23 refl $ forget ! 21 refl $ forget ! 19 refl $ forget ! 17 refl $ forget ! 15 refl $ forget ! 13 refl $ forget ! 11 refl $
-          move ! (29 ∷ 30 ∷ []) $ free1 ! $ move ! (27 ∷ 28 ∷ []) $ free1 ! $ move ! (25 ∷ 26 ∷ []) $ free1 ! $ move ! (23 ∷ 24 ∷ []) $ free1 ! $ move ! (21 ∷ 22 ∷ []) $ free1 ! $ move ! (19 ∷ 20 ∷ []) $ free1 ! $ move ! (17 ∷ 18 ∷ []) $ free1 ! $ move ! (15 ∷ 16 ∷ []) $ free1 ! $ move ! (13 ∷ 14 ∷ []) $ free1 ! $ move ! (11 ∷ 12 ∷ []) $ free1 ! $ free0 ! $ keep ! (10 ∷ 9 ∷ 0 ∷ 4 ∷ 3 ∷ 2 ∷ 1 ∷ 8 ∷ 7 ∷ 6 ∷ 5 ∷ []) $ by ! (ends r ws.1.1.1.0 l₃ ws.1.1.1.1.0 (again r v is) e)))))))))))))))))))
+          returns ! (look ! 28 refl) $ forget ! 28 refl $ forget ! 26 refl $ forget ! 24 refl $ forget ! 22 refl $ forget ! 20 refl $ forget ! 18 refl $ forget ! 16 refl $ forget ! 14 refl $ forget ! 12 refl $ forget ! 10 refl $
+          move ! (28 ∷ 29 ∷ []) $ free1 ! $ move ! (26 ∷ 27 ∷ []) $ free1 ! $ move ! (24 ∷ 25 ∷ []) $ free1 ! $ move ! (22 ∷ 23 ∷ []) $ free1 ! $ move ! (20 ∷ 21 ∷ []) $ free1 ! $ move ! (18 ∷ 19 ∷ []) $ free1 ! $ move ! (16 ∷ 17 ∷ []) $ free1 ! $ move ! (14 ∷ 15 ∷ []) $ free1 ! $ move ! (12 ∷ 13 ∷ []) $ free1 ! $ move ! (10 ∷ 11 ∷ []) $ free1 ! $ free0 ! $ keep ! (9 ∷ 0 ∷ 4 ∷ 3 ∷ 2 ∷ 1 ∷ 8 ∷ 7 ∷ 6 ∷ 5 ∷ []) $ by ! (ends r (ws.1.1.1.0) l₃ (ws.1.1.1.1.0) (again r v is) e)))))))))))))))))))
 
   walks : {M : Type 1} {𝓤 : Ura M} (𝓛 : Logic 𝓤) (C : Calls 𝓤 𝓛.H) (Λ : Loops 𝓤 𝓛.H) → FmC 𝓤 𝓛.H 𝓛.laws C → Triple 𝓤 (C key) (Callee 𝓛) → Walks 𝓛 ended stayed (WpFn 𝓤 𝓛.H C Λ function) (clauses 𝓛)
   walks {𝓤 = 𝓤} 𝓛 C Λ fm known = walked 𝓛 ended stayed (clauses 𝓛) (WpFn 𝓤 𝓛.H C Λ function) (λ κs. (shr_vals, (shr_slice_vals, (shr_slice_vals, (mut_slice_vals, (mut_vals, tt)))))) (λ κs. (shr_Tells (named 0) κs.0 (state_row S), (shr_slice_Tells (named 1) κs.1.0 (row_of A₁), (shr_slice_Tells (named 2) κs.1.1.0 (row_of A₂), (mut_slice_Tells (named 3) κs.1.1.1.0 (row_of A₃), (mut_Tells (named 4) κs.1.1.1.1.0 (row_of A₄), tt))))))
-      (λ κs qs bounds a g are. via 𝓤 _ (fst∗ 𝓤 _ (emp 𝓤)) (walk 𝓛 κs.0 qs.0 κs.1.0 qs.1.0 κs.1.1.0 qs.1.1.0 κs.1.1.1.0 qs.1.1.1.0 κs.1.1.1.1.0 qs.1.1.1.1.0 a.0.ref_ptr.0 a.0.ref_ptr.1 a.0.ghost_name a.0.now a.1.0 a.1.1.0 a.1.1.1.0 a.1.1.1.1.0 are.1.0 are.1.1.0 are.1.1.1.0 are.1.1.1.1.0 C Λ fm known))
+      (λ κs qs bounds a g are. via 𝓤 _ (fst∗ 𝓤 _ (emp 𝓤)) (walk 𝓛 κs.0 qs.0 κs.1.0 qs.1.0 κs.1.1.0 qs.1.1.0 κs.1.1.1.0 qs.1.1.1.0 κs.1.1.1.1.0 qs.1.1.1.1.0 a.0.ref_ptr.0 a.0.ref_ptr.1 a.0.now a.1.0 a.1.1.0 a.1.1.1.0 a.1.1.1.1.0 are.1.0 are.1.1.0 are.1.1.1.0 are.1.1.1.1.0 C Λ fm known))
 
   meets : {M : Type 1} {𝓤 : Ura M} (𝓛 : Logic 𝓤) (𝓣 : Tables 𝓤 𝓛.H) → Triple 𝓤 (𝓣.C key) (Callee 𝓛) → Meets 𝓛 signature (WpFn 𝓤 𝓛.H 𝓣.C 𝓣.Λ function) (closing 𝓛 ended (clauses 𝓛))
   meets {𝓤 = 𝓤} 𝓛 𝓣 known = walk_Meets 𝓛 ended stayed (Goes-none_ref 𝓛 5 (0 ∷ []) tt (plain (λ _. state_row S)) yes, (Goes-none_slice 𝓛 5 (1 ∷ []) tt (plain (λ _. row_of A₁)) yes, (Goes-none_slice 𝓛 5 (2 ∷ []) tt (plain (λ _. row_of A₂)) yes, (Goes-gave_slice 𝓛 5 3 tt (plain (λ _. row_of A₃)), (Goes-gave_ref 𝓛 5 4 tt (plain (λ _. row_of A₄)), tt))))) (clauses 𝓛) (WpFn 𝓤 𝓛.H 𝓣.C 𝓣.Λ function) (WpFn-mono 𝓤 𝓛.H 𝓛.laws 𝓣 function)

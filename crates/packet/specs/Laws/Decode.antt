@@ -1,9 +1,9 @@
 -- Laws of decoding: what follows from what is kept of the chain.
-use Rattle.std.specs.Prelude.{ℕ, ◌+◌, ◌-◌, ◌/◌, ◌%◌, ◌≤◌, ◌<◌, true, false, ltb, length, get_or, List, ◌++◌, ◌≡◌, refl}
+use Rattle.std.specs.Prelude.{ℕ, ◌+◌, ◌-◌, ◌/◌, ◌%◌, ◌≤◌, ◌<◌, true, false, ltb, length, get_or, List, ◌++◌, ◌≡◌}
 use borrow.Author.Tests.{lt-ltb, le-ltb, le-leb, eq-eqb, ne_eqb}
 use Rattle.packet.specs.Kind.{type_of}
 use Rattle.packet.specs.Layout.{header_of, header_with, type_field, version_field}
-use Rattle.std.proofs.Common.{length-append, take_at, drop_at, arith, ◌∙◌, ap}
+use Rattle.std.proofs.Common.{length-append, take_at, drop_at, arith, ap}
 use Rattle.common.specs.Answer.{Answer, done, refused}
 use Rattle.packet.specs.Chain.{Chain, past, whole, Sacked, read_of, chain_from}
 use Rattle.packet.specs.Decode.{sack_answer, payload_answer, packet_of, behind_header, chain_of, decode_of, part_of}

@@ -1,7 +1,7 @@
 -- Numbers and their bytes, and fields of any widths and their bytes: each gives the other back.
 use Rattle.std.specs.Prelude.{ℕ, zero, suc, ◌+◌, ◌*◌, ◌-◌, ◌/◌, ◌%◌, ◌^◌, ◌≤◌, ◌<◌, List, [], ◌∷◌, ◌++◌, ◌≡◌, refl, length, take, drop}
 use Rattle.std.proofs.Math.Nat.{mod-one, mul-add-div_right, mul-add-mod_self_right}
-use Rattle.std.proofs.Common.{mod-eq_of_lt, mul_comm, pow-suc, arith, append_assoc, ◌∙◌, ap, ap₂, sym, length-take, length-drop, pow-add, take_at, drop_at, take-add, length-take-le}
+use Rattle.std.proofs.Common.{mod-eq_of_lt, mul_comm, pow-suc, arith, append_assoc, ◌∙◌, ap, ap₂, sym, length-drop, pow-add, take_at, drop_at, take-add, length-take-le}
 use Rattle.std.proofs.Math.Arith.{mod-mul, digits_div, digits_lt}
 use Rattle.common.specs.Bytes.{AllBytes}
 use Rattle.packet.specs.Layout.{big, bytes, fields_of, bytes_of}

@@ -1,5 +1,5 @@
 -- Reading a written packet gives its parts back (document 01, "Packets on the wire").
-use Rattle.std.specs.Prelude.{ℕ, suc, ◌+◌, ◌*◌, ◌-◌, ◌/◌, ◌%◌, ◌^◌, ◌≤◌, ◌<◌, Bool, true, false, cond, List, [], ◌∷◌, ◌++◌, ◌≡◌, refl, ltb, eqb, length, get_or}
+use Rattle.std.specs.Prelude.{ℕ, ◌+◌, ◌*◌, ◌-◌, ◌/◌, ◌%◌, ◌≤◌, ◌<◌, Bool, true, false, cond, List, [], ◌∷◌, ◌++◌, ◌≡◌, refl, ltb, eqb, length, get_or}
 use Rattle.std.proofs.Common.{arith, append_assoc, append-nil, ◌∙◌, ap, sym, length-append, get_or-append-add, le-leb, eqb-true}
 use Rattle.std.proofs.Math.Dec.{eqb-suc-zero}
 use Rattle.common.specs.Answer.{Answer, done, refused}

@@ -1,17 +1,15 @@
 -- The two round trips of specs/RoundTrips.antt. What was written is read from the front of the room, where the packet's bytes stand; what was read is accepted by the writer's checks
 -- one after the other, and its bytes are the datagram's.
-use Rattle.std.specs.Prelude.{ℕ, ◌+◌, ◌≤◌, Bool, true, false, cond, List, ◌++◌, ◌≡◌, refl, ltb, length, take, drop}
+use Rattle.std.specs.Prelude.{ℕ, ◌+◌, Bool, true, false, cond, List, ◌≡◌, refl, ltb, length, take, drop}
 use Rattle.std.proofs.Common.{arith, ◌∙◌, ap, sym, subst, take_at, le-ltb}
 use Rattle.common.specs.Answer.{Answer, done, refused, ◌then◌}
 use Rattle.common.specs.Laws.Put.{put}
-use Rattle.packet.specs.Layout.{empty_data}
 use Rattle.packet.specs.Sack.{mask_answer}
-use Rattle.packet.specs.Decode.{decode_of, part_of}
-use Rattle.packet.specs.Encode.{packet_bytes, data_answer, room_answer, encode_of, written_to, room_of}
-use Rattle.packet.specs.RoundTrips.{HeaderFits, ReadAs, ReadingWritten, WrittenAs, WritingRead}
+use Rattle.packet.specs.Decode.{part_of}
+use Rattle.packet.specs.Encode.{packet_bytes, data_answer, encode_of, written_to, room_of}
+use Rattle.packet.specs.RoundTrips.{ReadAs, ReadingWritten, WritingRead}
 use Rattle.packet.specs.Laws.ReadWritten.{place_of_sack, place_of_payload, read_encoded, sack_back, payload_back}
 use Rattle.packet.specs.Laws.WriteRead.{again}
-use Rattle.packet.specs.declared.decode.Packet.{Packet}
 use Rattle.packet.specs.declared.header.Header.{Header}
 
 -- ---- reading what was written

@@ -35,7 +35,7 @@ bit_is a b e = go (eqb (a % 2) 1) (eqb (b % 2) 1) refl refl e
 by_bits : (w a b : ℕ) → a < 2 ^ w → b < 2 ^ w → ((k : ℕ) → k < w → a / 2 ^ k % 2 ≡ b / 2 ^ k % 2) → a ≡ b
 by_bits zero a b h k same = omega arith
 by_bits (suc w) a b h k same =
-    let low : a % 2 ≡ b % 2 = rw (div-one, div-one) at (same 0 (omega arith)) in
+    let low : a % 2 ≡ b % 2 = rw (div-one a, div-one b) at (same 0 (omega arith)) in
     let high : a / 2 ≡ b / 2 =
     by_bits w (a / 2) (b / 2) (omega arith) (omega arith) (λ i below. halved a i ∙ (same (suc i) (omega arith) ∙ sym (halved b i))) in
     omega arith

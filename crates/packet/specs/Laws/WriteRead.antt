@@ -1,10 +1,10 @@
 -- Writing a read packet: its bytes are those of the datagram, and the writer accepts it, when its chain is empty or is one SACK.
 use Rattle.std.specs.Prelude.{ℕ, zero, suc, ◌+◌, ◌*◌, ◌-◌, ◌%◌, ◌≤◌, ◌<◌, Bool, true, false, cond, List, [], ◌∷◌, ◌++◌, ◌≡◌, refl, ltb, eqb, length, take, drop, get_or}
-use Rattle.std.proofs.Common.{arith, ◌∙◌, ap, ap₂, sym, subst, take-append-drop, length-take, length-drop, drop-cons, drop-drop, take_all, length-take-le, le-leb, le-ltb, eqb-true, eq-eqb, ne_eqb, ltb-false}
+use Rattle.std.proofs.Common.{arith, ◌∙◌, ap, ap₂, sym, subst, take-append-drop, length-drop, drop-cons, drop-drop, take_all, length-take-le, le-leb, le-ltb, eqb-true, eq-eqb, ne_eqb, ltb-false}
 use Rattle.common.specs.Answer.{Answer, done, refused, ◌then◌}
 use Rattle.packet.specs.Kind.{type_number, type_of}
 use Rattle.packet.specs.Laws.Kind.{number_back}
-use Rattle.packet.specs.Layout.{bytes_of, fields_of, widths, fields_of_header, header_length, header_of, type_field, version_field, extension_field, empty_data}
+use Rattle.packet.specs.Layout.{bytes_of, fields_of, widths, fields_of_header, header_of, type_field, version_field, extension_field, empty_data}
 use Rattle.packet.specs.Chain.{Next, ends, onward, Chain, past, whole, before, step_of, extension_at, go_on, chain_from, none, inside}
 use Rattle.packet.specs.Decode.{behind_header, chain_of, decode_of, part_of, packet_of, sack_answer, payload_answer}
 use Rattle.packet.specs.Encode.{extension_byte, extension_bytes, packet_bytes}
