@@ -3,7 +3,7 @@ ghost use Rattle.std.specs.Prelude.{◌≡◌};
 ghost use Rattle.controller.specs.Answers.{reason_number};
 
 // Why a call is refused, each with its number.
-#[derive(Drop)]
+#[derive(Clone, Copy)]
 pub enum Reason {
     // 10: a setting is out of range.
     BadSetting,
@@ -32,7 +32,7 @@ impl Reason {
     }
 }
 
-#[derive(Drop)]
+#[derive(Clone, Copy)]
 pub enum Answer {
     // 0: done.
     Done,

@@ -6,7 +6,7 @@ use congestion::settings::Settings;
 
 // A delay, and the time at which it was heard of.
 #[repr(C)]
-#[derive(Drop)]
+#[derive(Clone, Copy)]
 pub struct Sample {
     pub delay: u64,
     pub at: u64,
@@ -14,7 +14,7 @@ pub struct Sample {
 
 // The kept samples stand at the front, oldest first. What stands past them is left as it was.
 #[repr(C)]
-#[derive(Drop)]
+#[derive(Clone, Copy)]
 pub struct Delays {
     pub kept: [Sample; 1024],
     pub count: u32,

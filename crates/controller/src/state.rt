@@ -11,20 +11,20 @@ use congestion::numbers::Numbers;
 use congestion::settings::Settings;
 
 #[repr(C)]
-#[derive(Drop)]
+#[derive(Clone, Copy)]
 pub struct Controller {
     pub numbers: Numbers,
     pub delays: Delays,
 }
 
 // The answer, beside the controller.
-#[derive(Drop)]
+#[derive(Clone, Copy)]
 pub struct Outcome {
     pub answer: Answer,
     pub controller: Controller,
 }
 
-#[derive(Drop)]
+#[derive(Clone, Copy)]
 pub enum Transmit {
     // A first transmit of so many bytes.
     Initial(u32),
@@ -33,7 +33,7 @@ pub enum Transmit {
 
 // What the controller asks of a newly acknowledged packet: its first length, whether it was sent
 // once, and when it was first sent.
-#[derive(Drop)]
+#[derive(Clone, Copy)]
 pub struct Packet {
     pub length: u32,
     pub once: bool,

@@ -8,9 +8,10 @@ ghost use Rattle.std.specs.Prelude.{◌<◌};
 
 use recv::{Count, Number, ReceiveBuffer, Writing};
 use seq::SeqNum;
+use std::io::Result;
 
 // What has happened so far, and which byte is to be read next: byte `at` of payload `want`.
-#[derive(Drop)]
+#[derive(Clone, Copy)]
 struct Tally {
     seed: u64,
     stored: u64,
@@ -25,7 +26,7 @@ struct Tally {
 }
 
 // The receiver beside the tally.
-#[derive(Drop)]
+#[derive(Clone, Copy)]
 struct Turn {
     state: ReceiveBuffer,
     tally: Tally,
@@ -228,23 +229,25 @@ fn run(turn: Turn, buf: &mut [u8], space: &mut [u8], initial: SeqNum) -> Turn {
     here
 }
 
-fn print(name: &[u8], n: u64) {
-    io::write_all(1, name);
-    io::print_decimal(1, n);
+fn print(rt: &impl Print, name: &[u8], n: u64) -> Result<()> {
+    let mut digits = [0u8; 20];
+    let count = io::decimal(n, &mut digits);
+    rt.write_all(name)?;
+    rt.write_all(&digits[..count])
 }
 
-fn report(tally: Tally) {
-    print(b"stored ", tally.stored);
-    print(b", there ", tally.there);
-    print(b", refused ", tally.refused);
-    print(b", bytes read ", tally.read);
-    print(b", of them wrong ", tally.wrong);
-    print(b", acks ", tally.acks);
-    print(b", bytes of SACK ", tally.bits);
-    io::write_all(1, b"\n");
+fn report(rt: &impl Print, tally: Tally) -> Result<()> {
+    print(rt, b"stored ", tally.stored)?;
+    print(rt, b", there ", tally.there)?;
+    print(rt, b", refused ", tally.refused)?;
+    print(rt, b", bytes read ", tally.read)?;
+    print(rt, b", of them wrong ", tally.wrong)?;
+    print(rt, b", acks ", tally.acks)?;
+    print(rt, b", bytes of SACK ", tally.bits)?;
+    rt.write_all(b"\n")
 }
 
-fn session(initial: SeqNum, seed: u64) {
+fn session(rt: &impl Print, initial: SeqNum, seed: u64) -> Result<()> {
     let mut buf = io::buffer();
     let mut space = io::buffer();
     let made = ReceiveBuffer::new(initial, 4096);
@@ -264,12 +267,12 @@ fn session(initial: SeqNum, seed: u64) {
     let turn = Turn { state, tally };
     let done = run(turn, &mut buf, &mut space, initial);
     let total = done.tally;
-    report(total);
+    report(rt, total)
 }
 
-fn main() {
-    session(SeqNum(0), 88172645463325252);
-    session(SeqNum(65000), 362436069);
-    session(SeqNum(65535), 521288629);
-    session(SeqNum(30000), 1234567);
+fn main(rt: HostRuntime) -> Result<()> {
+    session(&rt, SeqNum(0), 88172645463325252)?;
+    session(&rt, SeqNum(65000), 362436069)?;
+    session(&rt, SeqNum(65535), 521288629)?;
+    session(&rt, SeqNum(30000), 1234567)
 }

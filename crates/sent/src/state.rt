@@ -17,7 +17,7 @@ use seq::SeqNum;
 // the first unacknowledged one on, stand at the front of `packets` in order; what stands past them is
 // left as it was.
 #[repr(C)]
-#[derive(Drop)]
+#[derive(Clone, Copy)]
 pub struct SentPackets {
     pub initial: u16,
     pub count: u32,
@@ -28,7 +28,7 @@ pub struct SentPackets {
 }
 
 // What a walk over the kept packets finds.
-#[derive(Drop)]
+#[derive(Clone, Copy)]
 struct Walk {
     fine: bool,
     in_flight: u64,

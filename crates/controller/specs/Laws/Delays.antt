@@ -2,7 +2,7 @@
 use Rattle.std.specs.Prelude.{◌≡◌, refl, Bool, true, false, ◌&&◌, cond, ℕ, zero, suc, ◌+◌, ◌-◌, ◌≤◌, ◌<◌, T, leb, ltb, eqb, length, take, get_or, set}
 use Rattle.std.proofs.Common.{sym, ◌∙◌, subst, add_comm, add-one, arith, length-take, length-drop, length-append, drop_of_length-le, take-append-drop, take-suc, drop-cons, take_all, length-take-le, drop-drop, get_or-append-add, get_or-drop, get_or-take, take-take, eqb-true, le-ltb, lt-ltb, le-leb}
 use Rattle.std.proofs.Math.Path.{ap}
-use Rattle.std.proofs.Math.Bool.{and_false}
+use Rattle.std.proofs.Math.Bool.{and-false}
 use mathlib.Core.List.{List, [], ◌∷◌, ◌++◌, append_assoc}
 use Rattle.std.proofs.Math.ListN.{drop}
 use Rattle.std.proofs.Math.Seq.{take-nil, drop-append-add}
@@ -175,7 +175,7 @@ module _ (last : ℕ) (l r : List Sample) (x : Sample) (i : ℕ) (e : drop i l �
 
   pub unsound_by_time : time_by last r < x.at → kept_sound_of last l ≡ false
   unsound_by_time h =
-      unsound_behind last l i (ap (kept_sound_of last) e ∙ simp (lt-leb x.at (time_by last r) h, and_false))
+      unsound_behind last l i (ap (kept_sound_of last) e ∙ simp (lt-leb x.at (time_by last r) h, and-false))
 
   pub sound_with : x.delay < delay_below r → x.at ≤ time_by last r → kept_sound_of last r ≡ true → kept_sound_of last (drop i l) ≡ true
   sound_with h k s = ap (kept_sound_of last) e ∙ simp (lt-ltb x.delay (delay_below r) h, le-leb x.at (time_by last r) k, s)

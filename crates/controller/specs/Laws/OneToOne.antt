@@ -9,7 +9,7 @@ use Rattle.controller.specs.declared.answer.Answer.{Answer as Given}
 use Rattle.controller.specs.declared.answer.Answer.TheVariants.{Done, Refused}
 use Rattle.controller.specs.declared.state.Controller.{Controller}
 use Rattle.controller.specs.declared.state.Outcome.{Outcome}
-use Rattle.controller.specs.Answers.{reason_number, given, outcome}
+use Rattle.controller.specs.Answers.{given, outcome}
 
 -- The reason of a number.
 abbrev reason : ℕ → Reason

@@ -1,0 +1,12 @@
+-- The samples past `left` were not smaller, so dropping from the back goes on before them.
+use Rattle.std.proofs.Common.{◌≡◌, ◌-◌, ◌≤◌, take, drop}
+use Rattle.controller.specs.Delays.{drop_back, not_smaller_of, list_of}
+use Rattle.controller.proofs.delays.Delays.remaining_count.Given as goal
+
+abbrev pub invariant-loop-left : goal.invariant-loop-left
+invariant-loop-left l =
+    (drop_back (not_smaller_of l.delay) (drop l.first (list_of l.self)) ≡ drop_back (not_smaller_of l.delay) (take l.left (drop l.first (list_of l.self))))
+    × (l.left ≤ l.self.count - l.first)
+
+abbrev pub decreases-loop-left : goal.decreases-loop-left
+decreases-loop-left l = l.left

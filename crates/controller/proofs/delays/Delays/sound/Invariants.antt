@@ -1,0 +1,14 @@
+-- What stands from `i` on is sound, and `below` and `by` are the bounds that it sets for what stands before it.
+use Rattle.std.proofs.Common.{◌≡◌, ◌≤◌, true, drop}
+use Rattle.controller.specs.Delays.{list_of, delay_below, time_by, kept_sound_of}
+use Rattle.controller.proofs.delays.Delays.sound.Given as goal
+
+abbrev pub invariant-loop-i : goal.invariant-loop-i
+invariant-loop-i l =
+    (kept_sound_of l.last (drop l.i (list_of l.self)) ≡ true)
+    × (l.below ≡ delay_below (drop l.i (list_of l.self)))
+    × (l.by ≡ time_by l.last (drop l.i (list_of l.self)))
+    × (l.i ≤ l.self.count)
+
+abbrev pub decreases-loop-i : goal.decreases-loop-i
+decreases-loop-i l = l.i
