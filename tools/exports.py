@@ -1,5 +1,6 @@
 #!/usr/bin/env python3
-"""Writes the proofs of the functions that crates/ribsaddle exports: the walk of each form and shape in crates/walks (tools/walk.py, and tools/part.py for the form Part), and for each function the lines that cite its walk.
+"""Writes what is shown of the functions that crates/ribsaddle exports: the walk of each form and shape in crates/walks (tools/walk.py, and tools/part.py for the form Part), and for each function its record in
+proofs/Promises.antt, which cites its walk. Rattle finds the proofs of such functions by itself. The first function of each walk has its proof by the walk all the same: so the walk is one of a function as it is compiled.
 
 A row: module, function, form, shape, callee, state, what it returns besides an answer, the types of the parameters and of the answer, and the definitions of the
 callee's contract: of its result, and of each memory lent to it, in the order of the parameters. Of the form Part is a state in parts: its definitions are of the whole. PartR: the callee asks for the lengths of the arrays.
@@ -140,7 +141,7 @@ def named_in(module, given):
 
 
 def proof(module, name, form, shape, callee, state, out, types, specs):
-    """The function's proof, by its walk."""
+    """A function's proof by its walk."""
     fn = "ribsaddle_" + name
     here = f"Rattle.ribsaddle.proofs.{module}."
     args = types.split()
@@ -194,14 +195,16 @@ def promises():
     return "\n".join([head] + uses + lines) + "\n"
 
 
-WALKS = {file(row[0], *row[2:4]): (row[0], *row[2:4]) for row in ROWS}
-for name, (module, form, shape) in WALKS.items():
+WALKS = {}                                       # each walk, with the first function of its form and shape
+for row in ROWS:
+    WALKS.setdefault(file(row[0], *row[2:4]), row)
+for name, row in WALKS.items():
+    module, form, shape = row[0], *row[2:4]
     by = ["part.py", IN_PARTS[module]["fields"], shape, *["R"] * (form == "PartR")] if form.startswith("Part") else ["walk.py", form, shape]
     walk = subprocess.run([sys.executable, ROOT / "tools" / by[0], *by[1:]], check=True, capture_output=True, text=True).stdout
     (WALKS_AT / f"{name}.antt").write_text(walk)
-for row in ROWS:
-    folder = PROOFS / row[0] / ("ribsaddle_" + row[1])
+    folder = PROOFS / module / ("ribsaddle_" + row[1])
     folder.mkdir(parents=True, exist_ok=True)
     (folder / "Proof.antt").write_text(proof(*row))
 (PROOFS / "Promises.antt").write_text(promises())
-print(len(ROWS), "functions")
+print(len(ROWS), "functions,", len(WALKS), "walks")

@@ -13,11 +13,11 @@ use Rattle.congestion.specs.Window.{held_of, off_of, adjustment_of}
 
 pub record Allowed (s : Settings) (len in_flight : ℕ) : Type 0 where
   -- every setting is in its range: target 1,000 to 2^32 - 1, increase 1 to 2^20, gain 2^-10 to 1
-  pub settings_in_lem : in_range_of s ≡ true
+  pub settings_in : in_range_of s ≡ true
   -- the gain is a number that an f64 holds
   pub gain_an_f64 : T (fits binary64 s.gain)
   -- bytes in flight are above 0, and fit 32 bits
-  pub in_flight_in_lem : (1 ≤ in_flight) × (in_flight ≤ 2 ^ 32 - 1)
+  pub in_flight_in : (1 ≤ in_flight) × (in_flight ≤ 2 ^ 32 - 1)
   -- the packet is one of those in flight, so that it is no longer than they are together; it may have 0 bytes
   pub len_to : len ≤ in_flight
 

@@ -1,7 +1,7 @@
 -- The rows of docs/FLOAT.md, worked out by the definitions.
 use Rattle.std.specs.Prelude.{◌≡◌, refl, false, ℕ, ◌*◌, pos, negsuc, neg_ℤ, nat_abs, ◌-ℤ◌, ◌*ℤ◌, Float}
 use Rattle.std.proofs.Common.{arith}
-use Rattle.std.specs.Float.{fin, binary64}
+use Rattle.std.specs.Float.{fin}
 use Rattle.std.specs.Float.Ieee.{fits, le, mul, div, of_int, to_signed}
 use Rattle.congestion.specs.declared.settings.Settings.{Settings}
 use Rattle.congestion.specs.Window.{adjustment_of}
@@ -30,7 +30,7 @@ worked = settings three_tenths 3000 100000
 
 pub worked_allowed : Allowed worked 1400 9800
 unfolding fits le
-worked_allowed = record { settings_in_lem = refl; gain_an_f64 = tt; in_flight_in_lem = (omega arith, omega arith); len_to = omega arith }
+worked_allowed = record { settings_in = refl; gain_an_f64 = tt; in_flight_in = (omega arith, omega arith); len_to = omega arith }
 
 pub worked_gain : whole_gain_of three_tenths ≡ 1383505805528216320
 worked_gain = refl
@@ -49,7 +49,7 @@ byte = settings (fin false 1 (pos 0)) 49 49000
 
 pub byte_allowed : Allowed byte 1000 1000
 unfolding fits le
-byte_allowed = record { settings_in_lem = refl; gain_an_f64 = tt; in_flight_in_lem = (omega arith, omega arith); len_to = omega arith }
+byte_allowed = record { settings_in = refl; gain_an_f64 = tt; in_flight_in = (omega arith, omega arith); len_to = omega arith }
 
 -- the exact fraction is 1, and the adjustment 0
 pub byte_fraction : numerator_of byte (off_for byte 48000 0) 1000 ≡ pos (denominator_of byte 1000)

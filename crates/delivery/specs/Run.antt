@@ -1,9 +1,8 @@
 -- A run of two ends and a channel, its premises, and what is then always so (demand 3). Definitions only; `delivered` of Laws.Theorem is the theorem.
 -- Everything here is over the definitions that the promises of `sent` and `recv` use, so it holds of their code.
-use Rattle.std.specs.Prelude.{ℕ, ◌+◌, ◌-◌, ◌^◌, ◌≤◌, ◌<◌, Bool, true, false, ◌&&◌, not, cond, List, [], ◌∷◌, ◌++◌, map, ◌≡◌, ◌⊎◌, leb, length, take, get_or, replicate}
-use Rattle.std.proofs.Math.Option.{Option, none, some}
+use Rattle.std.specs.Prelude.{ℕ, ◌-◌, ◌^◌, ◌≤◌, ◌<◌, Bool, true, false, ◌&&◌, not, cond, List, [], ◌∷◌, ◌++◌, map, ◌≡◌, ◌⊎◌, leb, length, take, get_or, replicate}
+use Rattle.std.proofs.Math.Option.{none, some}
 use Rattle.common.specs.Answer.{Answer, done, refused}
-use Rattle.seq.specs.Seq.{offset_of}
 use Rattle.seq.specs.declared.SeqNum.{SeqNum}
 use Rattle.packet.specs.declared.kind.PacketType.{PacketType}
 use Rattle.congestion.specs.declared.settings.Settings.{Settings}
@@ -143,7 +142,7 @@ pub record Sent (d : Datagram) (run : List Event) : Type 0 where
 -- It was a first one.
 pub record FirstSent (d : Datagram) (run : List Event) : Type 0 where
   pub sent : Sent d run
-  pub is_first_lem : is_first sent.sender sent.asked ≡ true
+  pub was_first : is_first sent.sender sent.asked ≡ true
 
 -- The receiver's calls on this state and this room answer this number and these bytes.
 pub record Answers (s : ReceiveBuffer) (room : List ℕ) (a : Acknowledgement) : Type 0 where

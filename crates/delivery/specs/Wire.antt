@@ -1,9 +1,8 @@
 -- The same run with strings of bytes between the ends: what goes out and what arrives are datagrams as `packet` writes and reads them. Definitions only;
 -- `wire_delivered` of Laws.Wire is the theorem.
-use Rattle.std.specs.Prelude.{ℕ, ◌^◌, ◌<◌, Bool, true, false, cond, List, [], ◌∷◌, ◌++◌, ◌≡◌, ◌⊎◌}
+use Rattle.std.specs.Prelude.{ℕ, Bool, true, false, cond, List, [], ◌∷◌, ◌≡◌}
 use Rattle.std.proofs.Math.Option.{Option, none, some}
 use Rattle.common.specs.Answer.{Answer, done, refused}
-use Rattle.seq.specs.declared.SeqNum.{SeqNum}
 use Rattle.packet.specs.declared.kind.PacketType.{PacketType}
 use Rattle.packet.specs.declared.kind.PacketType.TheVariants.{Data, Fin, State, Reset, Syn}
 use Rattle.packet.specs.declared.header.Header.{Header}
@@ -13,7 +12,7 @@ use Rattle.packet.specs.Encode.{packet_bytes, encode_of}
 use Rattle.packet.specs.RoundTrips.{HeaderFits}
 use Rattle.sent.specs.declared.state.SentPackets.{SentPackets}
 use Rattle.recv.specs.declared.ReceiveBuffer.{ReceiveBuffer}
-use Rattle.delivery.specs.Run.{Datagram, Acknowledgement, Transmit, SenderCall, transmit, hear, time_out, ReceiverCall, write, read, build, Event, at_sender, at_receiver, goes_out, Start, sender_after, receiver_after, accepted, is_first, Happens, Happened, carried, Answers, Fresh, Delivered}
+use Rattle.delivery.specs.Run.{Datagram, Acknowledgement, Transmit, transmit, hear, time_out, write, read, build, Event, at_sender, at_receiver, goes_out, Start, sender_after, receiver_after, accepted, is_first, Happens, Happened, carried, Answers, Fresh}
 
 -- ---- what is written
 
@@ -116,7 +115,7 @@ pub record WireFirst (d : Datagram) (run : List WireEvent) : Type 0 where
   pub asked : Transmit
   pub happened : Happened (transmits sender asked) run
   pub is_accepted : accepted sender asked ≡ true
-  pub is_first_lem : is_first sender asked ≡ true
+  pub was_first : is_first sender asked ≡ true
   pub carries : carried asked ≡ d
 
 -- An acknowledgement that was built, whose bytes these are.

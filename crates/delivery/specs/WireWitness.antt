@@ -8,7 +8,7 @@ use Rattle.packet.specs.Encode.{packet_bytes}
 use Rattle.sent.specs.State.{fresh_of as fresh_sender}
 use Rattle.recv.specs.State.{fresh_of as fresh_receiver}
 use Rattle.delivery.specs.Run.{Acknowledgement, Transmit, Start, sender_after, receiver_after}
-use Rattle.delivery.specs.Wire.{WireEvent, transmits, times_out, reads, builds, sender_out, receiver_out, to_receiver, to_sender, plain}
+use Rattle.delivery.specs.Wire.{WireEvent, transmits, reads, builds, sender_out, receiver_out, to_receiver, to_sender, plain}
 use Rattle.delivery.specs.Witness.{settings, seq, data_of}
 
 abbrev pub start : Start

@@ -8,7 +8,7 @@ use Rattle.packet.specs.declared.kind.PacketType.TheVariants.{Data}
 use Rattle.congestion.specs.declared.settings.Settings.{Settings}
 use Rattle.sent.specs.State.{fresh_of as fresh_sender}
 use Rattle.recv.specs.State.{fresh_of as fresh_receiver}
-use Rattle.delivery.specs.Run.{Datagram, Acknowledgement, Transmit, SenderCall, transmit, hear, time_out, ReceiverCall, write, read, build, Event, at_sender, at_receiver, goes_out, Start, sender_after, receiver_after, carried}
+use Rattle.delivery.specs.Run.{Acknowledgement, Transmit, SenderCall, transmit, hear, time_out, ReceiverCall, write, read, build, Event, at_sender, at_receiver, goes_out, Start, sender_after, receiver_after, carried}
 
 -- The settings of the worked case of document 02, No. 3.
 abbrev pub settings : Settings

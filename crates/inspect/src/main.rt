@@ -4,39 +4,50 @@
 
 #![tactic(auto)]
 
-use feed::Feed;
-use libc::STDIN_FILENO;
+use feed::{Feed, Source};
 use lines::datagram::{LONGEST, put_line};
+use report::failure::fail;
 use report::text::{front, print, put_bytes};
+use std::env::{Env, FillError};
+use std::fs;
+use std::fs::File;
+use std::io::{Error, ErrorKind};
+use std::process::ExitCode;
+use std::rt::Files;
+use std::str::from_utf8;
 
-// Where the work stands: the reading, how many bytes of text are not written out yet, and whether to
-// go on.
+// Where the work stands: the reading, how many bytes of text are not written out yet, whether to go on,
+// and whether what was to be written out was.
 #[derive(Drop)]
 struct Stand {
     feed: Feed,
     used: usize,
     goes_on: bool,
+    is_written: bool,
 }
 
-// Writes the text out.
-fn flush(room: &[u8], used: usize) -> bool {
-    let is_written = print(room, used);
-    if !is_written {
-        os::fail(b"write");
+// Writes the text out, and answers whether it was all written.
+fn flush(rt: &(impl Print + Eprint), room: &[u8], used: usize) -> bool {
+    match print(rt, room, used) {
+        Ok(()) => true,
+        Err(error) => {
+            fail(rt, "write", &error);
+            false
+        }
     }
-    is_written
 }
 
 // Makes room for one line more, where there is too little.
-fn with_room(stand: Stand, room: &[u8]) -> Stand {
+fn with_room(rt: &(impl Print + Eprint), stand: Stand, room: &[u8]) -> Stand {
     if stand.used <= room.len() && LONGEST <= room.len() - stand.used {
         return stand;
     }
-    let feed = stand.feed;
+    let is_written = flush(rt, room, stand.used);
     Stand {
-        feed,
+        feed: stand.feed,
         used: 0,
-        goes_on: flush(room, stand.used),
+        goes_on: is_written,
+        is_written,
     }
 }
 
@@ -56,17 +67,20 @@ fn inspect_one(
             feed,
             used: put_bytes(room, stand.used, b"cut\n"),
             goes_on: false,
+            is_written: true,
         };
     }
     Stand {
         feed,
         used: put_line(room, stand.used, index, front(datagram, size)),
         goes_on: true,
+        is_written: true,
     }
 }
 
 // One turn: the next datagram, if there is one.
 fn inspect_next(
+    rt: &(impl Print + Eprint),
     stand: Stand,
     index: u64,
     window: &mut [u8],
@@ -79,13 +93,16 @@ fn inspect_next(
             feed,
             used: stand.used,
             goes_on: false,
+            is_written: true,
         };
     }
     let ready = with_room(
+        rt,
         Stand {
             feed,
             used: stand.used,
             goes_on: true,
+            is_written: true,
         },
         room,
     );
@@ -98,14 +115,21 @@ fn inspect_next(
 
 // Takes datagram after datagram. A proved loop has to end, and nothing says that a file does: it ends
 // at an index that no run reaches.
-fn inspect_all(fd: i32, window: &mut [u8], datagram: &mut [u8], room: &mut [u8]) -> Stand {
+fn inspect_all(
+    rt: &(impl Print + Eprint),
+    source: Source,
+    window: &mut [u8],
+    datagram: &mut [u8],
+    room: &mut [u8],
+) -> Stand {
     let mut stand = Stand {
-        feed: Feed::new(fd),
+        feed: Feed::new(source),
         used: 0,
         goes_on: true,
+        is_written: true,
     };
     for index in 0..u64::MAX {
-        stand = inspect_next(stand, index, window, datagram, room);
+        stand = inspect_next(rt, stand, index, window, datagram, room);
         if !stand.goes_on {
             return stand;
         }
@@ -113,33 +137,45 @@ fn inspect_all(fd: i32, window: &mut [u8], datagram: &mut [u8], room: &mut [u8])
     stand
 }
 
-fn inspect(fd: i32, name: &[u8]) {
+// Says what failed and why. The status is 1.
+fn failed(rt: &impl Eprint, what: &str, error: &Error) -> ExitCode {
+    fail(rt, what, error);
+    ExitCode::FAILURE
+}
+
+// Inspects what is read, and answers the status.
+fn inspect(rt: &(impl Print + Eprint), source: Source, name: &str) -> ExitCode {
     let mut window = io::large_buffer();
     let mut datagram = io::large_buffer();
     let mut room = io::large_buffer();
-    let stand = inspect_all(fd, &mut window, &mut datagram, &mut room);
-    flush(&room, stand.used);
-    if stand.feed.failed {
-        os::fail(name);
+    let stand = inspect_all(rt, source, &mut window, &mut datagram, &mut room);
+    let is_written = flush(rt, &room, stand.used) & stand.is_written;
+    match stand.feed.failed {
+        Some(error) => failed(rt, name, &error),
+        None if is_written => ExitCode::SUCCESS,
+        None => ExitCode::FAILURE,
     }
 }
 
-fn main() {
+// Inspects the file of a name.
+fn inspect_file(rt: &(impl Print + Eprint + Files<File = File>), name: &str) -> ExitCode {
+    match fs::open(rt, name) {
+        Ok(file) => inspect(rt, Source::Opened(file), name),
+        Err(error) => failed(rt, name, &error),
+    }
+}
+
+// The system's number of the error that a name is too long.
+const NAME_TOO_LONG: i32 = 36;
+
+fn main(rt: HostRuntime) -> ExitCode {
     let mut path = io::buffer();
-    if os::arg_count() < 2 {
-        inspect(STDIN_FILENO, b"standard input");
-        return;
+    match rt.arg(1, &mut path) {
+        Ok(length) => match from_utf8(&path[..length]) {
+            Ok(name) => inspect_file(&rt, name),
+            Err(_) => failed(&rt, "path", &Error::from(ErrorKind::InvalidFilename)),
+        },
+        Err(FillError::TooLong) => failed(&rt, "path", &Error::from_raw_os_error(NAME_TOO_LONG)),
+        Err(FillError::NotPresent) => inspect(&rt, Source::Input(rt.stdin()), "standard input"),
     }
-    let length = os::arg(1, &mut path);
-    if os::errno() != 0 {
-        os::fail(b"path");
-        return;
-    }
-    let fd = os::open_read(&path[..length]);
-    if fd < 0 {
-        os::fail(&path[..length]);
-        return;
-    }
-    inspect(fd, &path[..length]);
-    libc::close(fd);
 }

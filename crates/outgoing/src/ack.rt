@@ -142,7 +142,7 @@ impl Run {
 }
 
 // What an ack works on, and whether a packet was newly acknowledged (1) or none (0).
-#[derive(Clone, Copy)]
+#[derive(Drop)]
 pub struct Heard {
     pub packets: [Packet; 512],
     pub numbers: Numbers,

@@ -49,7 +49,7 @@ fn seen(record: &[u8]) -> &[u8] {
 }
 
 // An answer's number, and how many bytes were written.
-#[derive(Drop)]
+#[derive(Clone, Copy)]
 struct Answer {
     number: u64,
     written: u64,

@@ -5,7 +5,7 @@ use std::num::{wrapping_add_u16, wrapping_sub_u16};
 
 // A walk under way: whether each number was the one before it plus one, and whether the item that is
 // looked for was among them.
-#[derive(Drop)]
+#[derive(Clone, Copy)]
 struct Walk {
     range: CircularRangeInclusive,
     is_upward: bool,

@@ -8,14 +8,14 @@ use report::text::front;
 use seq::SeqNum;
 
 // The receiver after an event, and whether all that it answered is as recorded.
-#[derive(Drop)]
+#[derive(Clone, Copy)]
 pub struct Step {
     pub state: ReceiveBuffer,
     pub is_same: bool,
 }
 
 // An answer's number and its value.
-#[derive(Drop)]
+#[derive(Clone, Copy)]
 struct Answer {
     number: u64,
     value: u64,

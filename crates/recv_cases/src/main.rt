@@ -6,25 +6,26 @@
 
 use report::text::front;
 use session::replay;
+use std::io::Result;
 
 mod event;
 mod session;
 
-fn print(list: &[u8], kind: u64, name: &[u8]) {
-    replay(list, kind).print(name);
+fn print(rt: &impl Print, list: &[u8], kind: u64, name: &[u8]) -> Result<()> {
+    replay(list, kind).print(rt, name)
 }
 
-fn print_all(list: &[u8]) {
-    print(list, 0, b"sessions");
-    print(list, 1, b"write");
-    print(list, 2, b"read");
-    print(list, 3, b"ack");
-    print(list, 4, b"ask");
-    print(list, 5, b"run");
+fn print_all(rt: &impl Print, list: &[u8]) -> Result<()> {
+    print(rt, list, 0, b"sessions")?;
+    print(rt, list, 1, b"write")?;
+    print(rt, list, 2, b"read")?;
+    print(rt, list, 3, b"ack")?;
+    print(rt, list, 4, b"ask")?;
+    print(rt, list, 5, b"run")
 }
 
-fn main() {
+fn main(rt: HostRuntime) -> Result<()> {
     let mut room = list::room();
-    let size = list::read(b"recv.bin", &mut room);
-    print_all(front(&room, size));
+    let size = list::read(&rt, "recv.bin", &mut room);
+    print_all(&rt, front(&room, size))
 }

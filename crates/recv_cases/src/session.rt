@@ -9,7 +9,7 @@ use seq::SeqNum;
 use std::num::wrapping_add_usize;
 
 // What is counted, and the place in the list.
-#[derive(Drop)]
+#[derive(Clone, Copy)]
 struct Stand {
     tally: Tally,
     at: usize,

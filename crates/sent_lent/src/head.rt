@@ -25,7 +25,7 @@ use seq::{CircularRangeInclusive, SeqNum};
 
 // A tracker apart from its packets and its samples: of `samples`, `kept` are kept.
 #[repr(C)]
-#[derive(Drop)]
+#[derive(Clone, Copy)]
 pub struct Head {
     pub initial: u16,
     pub count: u32,
@@ -35,7 +35,7 @@ pub struct Head {
 }
 
 // The answer beside the head that the next call takes. A refusal hands the head back as it came.
-#[derive(Drop)]
+#[derive(Clone, Copy)]
 pub struct Stepped {
     pub answer: Outcome,
     pub head: Head,

@@ -58,7 +58,7 @@ pub(crate) fn put_packet(
 }
 
 // What a walk over the kept packets finds.
-#[derive(Drop)]
+#[derive(Clone, Copy)]
 pub(crate) struct Walk {
     pub(crate) fine: bool,
     pub(crate) in_flight: u64,
@@ -92,7 +92,7 @@ pub(crate) fn walked(
 }
 
 // What an ack makes of the numbers, and whether a packet was newly acknowledged (1) or none (0).
-#[derive(Drop)]
+#[derive(Clone, Copy)]
 pub(crate) struct Marked {
     pub(crate) numbers: Numbers,
     pub(crate) news: u32,

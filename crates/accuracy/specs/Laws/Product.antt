@@ -46,7 +46,7 @@ pub record InUse (gain : Float) (G increase target : ℕ) (off : ℤ) (len in_fl
   pub increase_in : (1 ≤ increase) × (increase ≤ 2 ^ 20)
   pub target_in : (1000 ≤ target) × (target ≤ 2 ^ 32 - 1)
   pub off_to : nat_abs off ≤ 2 ^ 32 - 1
-  pub in_flight_in_lem : (1 ≤ in_flight) × (in_flight ≤ 2 ^ 32 - 1)
+  pub in_flight_in : (1 ≤ in_flight) × (in_flight ≤ 2 ^ 32 - 1)
   pub len_to : len ≤ in_flight
 
 module _ (gain : Float) (G increase target : ℕ) (off : ℤ) (len in_flight : ℕ) (u : InUse gain G increase target off len in_flight) where
@@ -66,7 +66,7 @@ module _ (gain : Float) (G increase target : ℕ) (off : ℤ) (len in_flight : �
   off_lo h = omega (arith, u.target_in.1)
 
   len_lo : 0 < len → in_flight ≤ len * 2 ^ 32
-  len_lo h = omega (arith, u.in_flight_in_lem.1)
+  len_lo h = omega (arith, u.in_flight_in.1)
 
   lag_is : Approx lag (negative off) (nat_abs off) target (2 ^ 53) (2 ^ 53 + 1) (2 ^ 53 - 1)
   lag_is =
@@ -75,7 +75,7 @@ module _ (gain : Float) (G increase target : ℕ) (off : ℤ) (len in_flight : �
 
   share_is : Approx share false len in_flight (2 ^ 53) (2 ^ 53 + 1) (2 ^ 53 - 1)
   share_is =
-      quotient_near (pos len) in_flight 1 (2 ^ 32) u.in_flight_in_lem.0 (omega (arith, u.len_to, u.in_flight_in_lem.1)) (omega (arith, u.in_flight_in_lem.1))
+      quotient_near (pos len) in_flight 1 (2 ^ 32) u.in_flight_in.0 (omega (arith, u.len_to, u.in_flight_in.1)) (omega (arith, u.in_flight_in.1))
       (omega (arith, u.len_to)) len_lo (lit≤ tt) (lit≤ tt)
 
   -- gain × increase
@@ -120,7 +120,7 @@ module _ (gain : Float) (G increase target : ℕ) (off : ℤ) (len in_flight : �
   third_is =
       times (mul binary64 first lag) share (unlike false (negative off)) false
       (G * increase * nat_abs off) (2 ^ 62 * 1 * target) (2 ^ 159) ((2 ^ 53 + 1) ^ 3) ((2 ^ 53 - 1) ^ 3) len in_flight (2 ^ 53) (2 ^ 53 + 1) (2 ^ 53 - 1) (2 ^ 43) (2 ^ 74) second_is share_is
-      (mul-pos under_second u.in_flight_in_lem.0) (lit< tt) (lit< tt) (lit≤ tt) (lit≤ tt) third_hi third_lo (lit≤ tt) (lit≤ tt)
+      (mul-pos under_second u.in_flight_in.0) (lit< tt) (lit< tt) (lit≤ tt) (lit≤ tt) third_hi third_lo (lit≤ tt) (lit≤ tt)
 
   -- ---- without the factor 1, and with off's sign
 
@@ -149,4 +149,4 @@ module _ (gain : Float) (G increase target : ℕ) (off : ℤ) (len in_flight : �
       ))
 
   pub under_product : 0 < 2 ^ 62 * target * in_flight
-  under_product = mul-pos (mul-pos {m = 2 ^ 62} (lit< tt) (omega (arith, u.target_in.0))) u.in_flight_in_lem.0
+  under_product = mul-pos (mul-pos {m = 2 ^ 62} (lit< tt) (omega (arith, u.target_in.0))) u.in_flight_in.0

@@ -4,7 +4,6 @@ use Rattle.std.proofs.Common.{arith, inl, inr, ◌∙◌, ap, leb-true}
 use Rattle.std.proofs.Math.Seq.{take-append_seam}
 use Rattle.common.specs.Answer.{Answer, done, refused, ◌then◌}
 use Rattle.seq.specs.declared.SeqNum.{SeqNum}
-use Rattle.packet.specs.declared.kind.PacketType.{PacketType}
 use Rattle.outgoing.specs.declared.kept.Packet.{Packet}
 use Rattle.sent.specs.declared.state.SentPackets.{SentPackets}
 use Rattle.outgoing.specs.Tracker.{Tracker, offset_in, clocked_of, clock_answer}

@@ -1,5 +1,5 @@
 -- How the premises are kept as a run grows by an event: what each asks of that event and of what was before it. A concrete run is shown to keep them so.
-use Rattle.std.specs.Prelude.{ℕ, zero, suc, Bool, true, false, ◌&&◌, not, List, [], ◌∷◌, ◌⊎◌, ◌≡◌, refl, eqb, leb}
+use Rattle.std.specs.Prelude.{ℕ, zero, suc, Bool, true, false, ◌&&◌, not, List, [], ◌∷◌, ◌≡◌, refl, eqb}
 use Rattle.std.proofs.Common.{arith, inl, inr, ◌∙◌, ap, sym, subst, subst₂, eq-eqb}
 use Rattle.std.proofs.Math.Option.{Option, none, some}
 use Rattle.sent.specs.declared.state.SentPackets.{SentPackets}

@@ -1,5 +1,5 @@
 -- Each premise of the theorem is needed: for each a run that keeps all others and breaks a conclusion.
-use Rattle.std.specs.Prelude.{ℕ, ◌-◌, ◌^◌, ◌≤◌, ◌<◌, Bool, true, false, List, [], ◌∷◌, ◌≡◌, refl, length, replicate, get_or}
+use Rattle.std.specs.Prelude.{ℕ, ◌-◌, ◌≤◌, List, [], ◌∷◌, ◌≡◌, refl, replicate, get_or}
 use Rattle.std.proofs.Common.{arith, ap}
 use Rattle.std.proofs.Math.Option.{Option, none, some}
 use Rattle.std.specs.Float.Ieee.{le, mul, div, of_int, to_signed}
@@ -12,7 +12,7 @@ use Rattle.outgoing.specs.Loss.{acked_count_of, loss_marked_of, loss_counted_of}
 use Rattle.outgoing.specs.Tracker.{no_packet}
 use Rattle.outgoing.specs.Transmit.{transmit_check, sent_of, transmit_of}
 use Rattle.outgoing.specs.Ack.{ack_check, marked_of, ack_of, sacked_from, offsets_from, heard_of, newly_acked_of, all_acknowledged_of, from_unacked}
-use Rattle.sent.specs.State.{tracker_of, state_sound_of, transmit_answer, ack_state_of, ack_answer, timeout_answer, fresh_of as fresh_sender}
+use Rattle.sent.specs.State.{state_sound_of, transmit_answer, ack_state_of, ack_answer, timeout_answer, fresh_of as fresh_sender}
 use Rattle.sent.specs.declared.state.SentPackets.{SentPackets}
 use Rattle.recv.specs.State.{sound_of as receiver_sound, fresh_of as fresh_receiver}
 use Rattle.recv.specs.Table.{there_of, sack_of}
@@ -20,9 +20,9 @@ use Rattle.recv.specs.Receiver.{rule_of, stored_of, read_of}
 use Rattle.recv.specs.Calls.{receiver_of, answer_of}
 use Rattle.recv.specs.Runs.{Run}
 use Rattle.recv.specs.declared.ReceiveBuffer.{ReceiveBuffer}
-use Rattle.delivery.specs.Run.{Datagram, Acknowledgement, Transmit, transmit, hear, time_out, write, read, build, Event, at_sender, at_receiver, goes_out, Start, sender_after, receiver_after, accepted, is_first, payloads, carried, Fresh, FreshSender, FreshReceiver, Sent, Channel, SamePayload, OnlyAccepted, BuiltEarlier, SenderGoesOn, ReceiverGoesOn, BufferGoesOn, Stored, in_order, waiting, Delivered}
+use Rattle.delivery.specs.Run.{Transmit, transmit, hear, time_out, write, read, Event, at_sender, at_receiver, goes_out, Start, sender_after, receiver_after, payloads, carried, Fresh, FreshSender, FreshReceiver, Channel, SamePayload, OnlyAccepted, BuiltEarlier, SenderGoesOn, ReceiverGoesOn, BufferGoesOn, Stored, in_order, waiting, Delivered}
 use Rattle.delivery.specs.Witness.{settings, seq, data_of}
-use Rattle.delivery.specs.Laws.Kept.{Along, along_none, along_more, along_quiet, none_of, happened_at, channel_other, channel_write, channel_kept, same_other, same_transmit, same_kept, accepted-other, accepted_out, accepted_kept, built_other, built_kept, sender-other, sender_call, sender_kept, receiver-other, receiver_call, receiver_kept, buffer_other, buffer_call, buffer_kept, Keeps, keeps_none, keeps_first, keeps_again, keeps_write, keeps_read, keeps_out}
+use Rattle.delivery.specs.Laws.Kept.{along_none, along_more, along_quiet, happened_at, channel_other, channel_write, channel_kept, same_other, same_kept, accepted-other, accepted_out, accepted_kept, built_other, built_kept, sender-other, sender_call, sender_kept, receiver-other, receiver_call, receiver_kept, buffer_other, buffer_call, buffer_kept, Keeps, keeps_none, keeps_first, keeps_write, keeps_out}
 
 -- Two fresh ends that share the initial number 0, and a buffer of two bytes.
 abbrev pub start : Start

@@ -1,5 +1,5 @@
 -- What the receiver has stored, by what was first stored under each offset: it stays stored, and an acknowledgement that is built says only what is stored then.
-use Rattle.std.specs.Prelude.{ℕ, zero, suc, ◌+◌, ◌-◌, ◌^◌, ◌≤◌, ◌<◌, Bool, true, false, ◌&&◌, ◌||◌, cond, List, [], ◌∷◌, ◌⊎◌, ◌≡◌, refl, leb, ltb, eqb, length, take, drop, get_or}
+use Rattle.std.specs.Prelude.{ℕ, zero, suc, ◌+◌, ◌-◌, ◌^◌, ◌≤◌, ◌<◌, Bool, true, false, ◌&&◌, cond, List, [], ◌∷◌, ◌⊎◌, ◌≡◌, refl, leb, ltb, eqb, length, take, drop, get_or}
 use Rattle.std.proofs.Common.{arith, append-nil, inl, inr, ◌∙◌, ap, sym, subst, leb-true, leb-false, eqb-true}
 use Rattle.std.proofs.Math.Option.{Option, none, some}
 use Rattle.std.proofs.Math.Seq.{take-append_seam}

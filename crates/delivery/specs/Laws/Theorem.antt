@@ -18,7 +18,7 @@ use Rattle.outgoing.specs.declared.kept.Packet.{Packet}
 use Rattle.outgoing.specs.Tracker.{Tracker, offset_in, is_kept, packet_at, with_packet_at, clocked_of, gone_of}
 use Rattle.outgoing.specs.Transmit.{with_resent, resent_of, recorded_of, first_sent, sent_of}
 use Rattle.outgoing.specs.Sound.{timeout_of}
-use Rattle.sent.specs.State.{tracker_of, transmit_answer, ack_answer, timeout_answer, new_answer}
+use Rattle.sent.specs.State.{tracker_of, timeout_answer, new_answer}
 use Rattle.recv.specs.declared.Writing.{Writing}
 use Rattle.recv.specs.declared.ReceiveBuffer.{ReceiveBuffer}
 use Rattle.recv.specs.declared.Created.{Created}
@@ -30,7 +30,7 @@ use Rattle.recv.specs.Calls.{answer_of}
 use Rattle.recv.specs.Runs as Recv
 use Rattle.recv.specs.Runs.{first_stored, Run, Entry, fresh_run}
 use Rattle.recv.specs.Laws.Runs as RecvLaws
-use Rattle.delivery.specs.Run.{Datagram, Acknowledgement, Transmit, SenderCall, transmit, hear, time_out, ReceiverCall, write, read, build, Event, at_sender, at_receiver, goes_out, Start, sender_after, receiver_after, receiver_left, accepted, is_first, payloads, Happens, Happened, carried, Sent, FirstSent, Answers, Built, Fresh, Premises, joined_all, marks_of, held_acked, stream_of, Stored, AllAcked, Delivered}
+use Rattle.delivery.specs.Run.{Datagram, Acknowledgement, Transmit, SenderCall, transmit, hear, time_out, ReceiverCall, write, read, build, Event, at_sender, at_receiver, goes_out, Start, sender_after, receiver_after, receiver_left, accepted, is_first, payloads, Happens, Happened, carried, Sent, FirstSent, Answers, Built, Fresh, Premises, joined_all, marks_of, held_acked, stream_of, AllAcked, Delivered}
 use Rattle.delivery.specs.Laws.Marks.{marks_recorded, marks_resent, Speaks, acked_by_of, ack_stays, ack_grown}
 use Rattle.delivery.specs.Laws.Calls.{transmit_accepted, transmit_refused, Heard, unheard, heard, ack_heard, timeout_stays}
 use Rattle.delivery.specs.Laws.Stored.{IsStored, stored_changed, first-changed, Well, Receives, receives_well, receives_step, has_stored, next_missing, ack_offset, speaks_stored, write_initial, read_initial}
@@ -546,7 +546,7 @@ at_start b fresh =
 -- The premises hold of what happened earlier.
 pub earlier : (b : Start) (e : Event) (run : List Event) → Premises b (e ∷ run) → Premises b run
 unfolding Happens
-earlier b e run k =
+earlier b e _ k =
     record {
       fresh = k.fresh;
       channel = λ s buf d before h. k.channel s buf d before (inr h);

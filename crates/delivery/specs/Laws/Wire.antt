@@ -2,13 +2,11 @@
 use Rattle.std.specs.Prelude.{ℕ, Bool, true, false, cond, List, [], ◌∷◌, ◌⊎◌, ◌≡◌, refl}
 use Rattle.std.proofs.Common.{arith, inl, inr, ◌∙◌, ap, ap₂, sym, subst, subst₂}
 use Rattle.std.proofs.Math.Option.{Option, none, some}
-use Rattle.common.specs.Answer.{Answer, done, refused}
+use Rattle.common.specs.Answer.{Answer, done}
 use Rattle.seq.specs.declared.SeqNum.{SeqNum}
-use Rattle.packet.specs.declared.kind.PacketType.{PacketType}
 use Rattle.packet.specs.declared.decode.Packet.{Packet}
 use Rattle.packet.specs.declared.header.Header.{Header}
 use Rattle.packet.specs.Decode.{decode_of, part_of}
-use Rattle.packet.specs.Encode.{packet_bytes}
 use Rattle.packet.specs.Laws.ReadWritten.{place_of_sack, place_of_payload, read_encoded, sack_back, payload_back}
 use Rattle.sent.specs.declared.state.SentPackets.{SentPackets}
 use Rattle.recv.specs.declared.ReceiveBuffer.{ReceiveBuffer}
@@ -148,7 +146,7 @@ module _ (b : Start) (run : List WireEvent) (keeps : Keeps b (plain run)) where
                   is_accepted = k.is_accepted;
                   carries = k.carries;
                 };
-            is_first_lem = k.is_first_lem;
+            was_first = k.was_first;
           }
 
   -- Bytes go out; they arrive at the receiver; they arrive at the sender.

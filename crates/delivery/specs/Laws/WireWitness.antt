@@ -1,14 +1,13 @@
 -- The run of WireWitness keeps every premise, and every byte arrives: the theorem over bytes is not empty. Each fact is computed by the definitions.
-use Rattle.std.specs.Prelude.{ℕ, ◌^◌, ◌<◌, Bool, true, false, List, [], ◌∷◌, ◌≡◌, refl, length, replicate}
+use Rattle.std.specs.Prelude.{ℕ, ◌^◌, ◌<◌, Bool, true, false, List, [], ◌∷◌, ◌≡◌, refl, replicate}
 use Rattle.std.proofs.Common.{arith, lit<}
 use Rattle.std.specs.Float.Ieee.{le, mul, div, of_int, to_signed}
-use Rattle.common.specs.Answer.{done}
 use Rattle.packet.specs.declared.kind.PacketType.{PacketType}
 use Rattle.packet.specs.declared.kind.PacketType.TheVariants.{Data, State}
 use Rattle.packet.specs.Layout.{fields_of, bytes_of}
 use Rattle.packet.specs.Chain.{chain_from}
 use Rattle.packet.specs.Decode.{decode_of}
-use Rattle.packet.specs.Encode.{packet_bytes, encode_of}
+use Rattle.packet.specs.Encode.{encode_of}
 use Rattle.packet.specs.RoundTrips.{HeaderFits}
 use Rattle.congestion.specs.Numbers.{sound_of, adjusted_of, timed_of, credited_of}
 use Rattle.congestion.specs.Window.{adjustment_of, next_maximum_of}
@@ -23,10 +22,10 @@ use Rattle.recv.specs.State.{sound_of as receiver_sound}
 use Rattle.recv.specs.Table.{there_of, sack_of}
 use Rattle.recv.specs.Receiver.{rule_of, stored_of, read_of}
 use Rattle.recv.specs.Calls.{answer_of}
-use Rattle.delivery.specs.Run.{Transmit, Start, sender_after, receiver_after, accepted, is_first, Happened, Fresh, carried, marks_of}
-use Rattle.delivery.specs.Wire.{Writes, SentAs, AckedAs, WireEvent, transmits, times_out, reads, builds, sender_out, receiver_out, to_receiver, to_sender, plain, WireSent, WireFirst, WireBuilt, OnWith, WirePremises}
+use Rattle.delivery.specs.Run.{Start, sender_after, receiver_after, accepted, is_first, Happened, Fresh, carried, marks_of}
+use Rattle.delivery.specs.Wire.{SentAs, AckedAs, WireEvent, transmits, times_out, reads, builds, sender_out, receiver_out, to_receiver, to_sender, plain, WireSent, WireFirst, WireBuilt, OnWith, WirePremises}
 use Rattle.delivery.specs.Witness.{settings, seq}
-use Rattle.delivery.specs.WireWitness.{start, first, second, again, header, first-bytes, second-bytes, early, last, early-bytes, last-bytes, asks, reads_into, builds_in, arrives, hears, sent, arrived, acknowledged, mended, run}
+use Rattle.delivery.specs.WireWitness.{start, first, second, again, header, first-bytes, second-bytes, early, last, early-bytes, last-bytes, asks, builds_in, arrives, hears, sent, arrived, acknowledged, mended, run}
 use Rattle.delivery.specs.Laws.Kept.{Along, along_none, along_more, happened_at}
 
 -- ---- what the premises ask of each event and of what was before it
@@ -139,7 +138,7 @@ mended_allowed =
     (along_more (Allowed start) (sender_out first-bytes) (asks acknowledged again)
     (record { sender = sender_after start (plain acknowledged); asked = again; happened = happened_at _ (asks acknowledged again) 0 refl; is_accepted = refl; bytes_are = again-sent })
     (along_more (Allowed start) _ acknowledged
-    (refl, λ a f. record { sender = start.sender; asked = first; happened = happened_at _ acknowledged 8 refl; is_accepted = refl; is_first_lem = refl; carries = refl })
+    (refl, λ a f. record { sender = start.sender; asked = first; happened = happened_at _ acknowledged 8 refl; is_accepted = refl; was_first = refl; carries = refl })
     acknowledged_allowed))
 
 run_allowed : Along (Allowed start) run

@@ -1,5 +1,5 @@
 -- The run of Witness keeps every premise, and every byte arrives: the theorem is not empty. Each fact is computed by the definitions.
-use Rattle.std.specs.Prelude.{ℕ, ◌^◌, ◌≤◌, ◌<◌, Bool, true, false, List, [], ◌∷◌, ◌≡◌, refl, length, replicate}
+use Rattle.std.specs.Prelude.{true, false, List, [], ◌∷◌, ◌≡◌, refl, replicate}
 use Rattle.std.proofs.Common.{arith}
 use Rattle.std.specs.Float.Ieee.{le, mul, div, of_int, to_signed}
 use Rattle.congestion.specs.Numbers.{sound_of, adjusted_of, timed_of, credited_of}
@@ -15,7 +15,7 @@ use Rattle.recv.specs.State.{sound_of as receiver_sound}
 use Rattle.recv.specs.Table.{there_of, sack_of}
 use Rattle.recv.specs.Receiver.{rule_of, stored_of, read_of}
 use Rattle.recv.specs.Calls.{answer_of}
-use Rattle.delivery.specs.Run.{Transmit, transmit, hear, time_out, write, read, build, Event, at_sender, at_receiver, goes_out, sender_after, receiver_after, accepted, is_first, payloads, carried, Fresh, Built, FirstSent, Premises, marks_of}
+use Rattle.delivery.specs.Run.{Transmit, transmit, read, build, Event, sender_after, receiver_after, accepted, is_first, payloads, carried, Fresh, Premises, marks_of}
 use Rattle.delivery.specs.Witness.{settings, seq, start, first, second, third, fourth, fifth, unknown, again, early, last, sender, receiver, sends, sent, arrived, heard, timed_out, mended, run}
 use Rattle.delivery.specs.Laws.Kept.{happened_at, Keeps, keeps_none, premises_kept, keeps_first, keeps_again, keeps_hear, keeps_time_out, keeps_write, keeps_read, keeps_build, keeps_out}
 
@@ -32,8 +32,8 @@ fresh =
 -- ---- a first transmit that is accepted, and its datagram
 
 sends_kept : (before : List Event) → Keeps start before → (x : Transmit) → is_first (sender_after start before) x ≡ true → accepted (sender_after start before) x ≡ true → Keeps start (sends before x)
-sends_kept before k x is_first_lem is_accepted =
-    keeps_out start (sender before (transmit x)) (keeps_first start before k x is_first_lem) (carried x)
+sends_kept before k x was_first is_accepted =
+    keeps_out start (sender before (transmit x)) (keeps_first start before k x was_first) (carried x)
     (record {
       sender = sender_after start before;
       asked = x;
@@ -90,7 +90,7 @@ again_kept =
         is_accepted = refl;
         carries = refl;
       };
-      is_first_lem = refl;
+      was_first = refl;
     }))
     (carried again)
     (record {

@@ -1,5 +1,5 @@
 -- The kept packets through an ack: what holds of each while packets are acknowledged, and that loss and release make the soundness test hold again.
-use Rattle.std.specs.Prelude.{◌≡◌, refl, Bool, true, false, ◌&&◌, ℕ, zero, suc, ◌+◌, ◌-◌, ◌≤◌, ◌<◌, leb, eqb, length, get_or, set}
+use Rattle.std.specs.Prelude.{◌≡◌, refl, Bool, true, false, ◌&&◌, ℕ, zero, suc, ◌+◌, ◌≤◌, ◌<◌, leb, eqb, length, get_or, set}
 use Rattle.std.proofs.Common.{sym, ap₂, ◌∙◌, le-leb, leb-true, eq-eqb, eqb-true}
 use Rattle.std.proofs.Math.Path.{ap, subst⁻¹}
 use Rattle.std.proofs.Math.Bool.{cond}

@@ -1,7 +1,7 @@
 -- Over any calls from a fresh tracker: every state passes the soundness test, so bytes in flight are the summed first lengths of the unacknowledged packets, the
 -- maximum is never below the minimum, places run from the first unacknowledged packet to the last sent, and a packet is marked lost exactly when it is lost.
-use Rattle.std.specs.Prelude.{◌≡◌, refl, Bool, true, cond, List, [], ◌∷◌, ℕ, zero, suc, ◌-◌, ◌≤◌, ◌<◌, length, take, drop, get_or}
-use Rattle.std.proofs.Common.{sym, ap, ◌∙◌, subst, arith, length-take}
+use Rattle.std.specs.Prelude.{◌≡◌, refl, Bool, true, cond, List, [], ◌∷◌, ℕ, zero, suc, ◌≤◌, ◌<◌, length, take, drop, get_or}
+use Rattle.std.proofs.Common.{sym, ap, ◌∙◌, arith, length-take}
 use Rattle.std.proofs.Math.Path.{subst⁻¹}
 use Rattle.std.proofs.Math.Seq.{take-append_seam}
 use Rattle.common.specs.Answer.{Answer, done, refused, ◌then◌}

@@ -1,5 +1,5 @@
 -- The soundness test: what it finds by parts, and what it says of a state that passes it.
-use Rattle.std.specs.Prelude.{◌≡◌, refl, Bool, true, false, ◌&&◌, ◌||◌, not, cond, List, [], ◌∷◌, ℕ, suc, ◌-◌, ◌≤◌, leb, eqb, length, take, get_or}
+use Rattle.std.specs.Prelude.{◌≡◌, refl, Bool, true, false, ◌&&◌, ◌||◌, not, cond, List, [], ◌∷◌, ℕ, suc, ◌≤◌, leb, eqb, length, take, get_or}
 use Rattle.std.proofs.Common.{sym, ap, ◌∙◌, arith, le-leb, leb-true, eqb-true, eq-eqb, ne_eqb}
 use Rattle.congestion.specs.Laws.Numbers.{both, and_of}
 use Rattle.outgoing.specs.Read.{some_unacked, told_of}

@@ -1,5 +1,5 @@
 -- The packet that is looked at decides: the run stops there, or goes on past it.
-use Rattle.std.proofs.Common.{◌≡◌, refl, sym, ap, ◌∙◌, [], length, take, drop, get_or, add-one, arith, drop_of_length-le, get_or-take}
+use Rattle.std.proofs.Common.{◌≡◌, sym, ap, ◌∙◌, [], length, take, drop, add-one, arith, drop_of_length-le, get_or-take}
 use Rattle.outgoing.specs.Tracker.{no_packet}
 use Rattle.outgoing.specs.Loss.{is_unacked}
 use Rattle.outgoing.specs.Ack.{from_unacked}

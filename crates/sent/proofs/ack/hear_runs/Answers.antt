@@ -1,11 +1,11 @@
 -- A step that speaks of no kept packet, or of one that is acknowledged, changes nothing.
-use Rattle.std.proofs.Common.{◌≡◌, sym, ap, ap₂, ◌∙◌, ℕ, ◌+◌, ◌-◌, ◌<◌, ◌≤◌, true, false, List, length, set, arith}
+use Rattle.std.proofs.Common.{◌≡◌, sym, ap, ap₂, ◌∙◌, ℕ, ◌+◌, ◌-◌, List, set, arith}
 use Rattle.congestion.specs.declared.numbers.Numbers.{Numbers}
 use Rattle.outgoing.specs.declared.kept.Packet.{Packet}
 use Rattle.outgoing.specs.declared.ack.Ack.{Ack}
 use Rattle.outgoing.specs.declared.ack.Heard.{Heard}
 use Rattle.outgoing.specs.declared.ack.Run.{Run}
-use Rattle.outgoing.specs.Hear.{keeps_of, place_of, newly_heard_of, unheard_of, all_heard_of, heard_at, steps_from, step_of}
+use Rattle.outgoing.specs.Hear.{place_of, newly_heard_of, unheard_of, all_heard_of, heard_at, steps_from, step_of}
 use Rattle.outgoing.specs.Laws.Hear.{unkept_same, acked_same, unacked_heard, two_runs, next_step, no_step}
 use Rattle.sent.proofs.ack.hear_runs.Goals as goal
 

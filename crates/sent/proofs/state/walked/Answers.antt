@@ -1,5 +1,5 @@
 -- One more is looked at, and `later` of those behind it are acknowledged.
-use Rattle.std.proofs.Common.{◌≡◌, sym, ap, ◌-◌, length, take, drop, get_or, arith}
+use Rattle.std.proofs.Common.{◌≡◌, sym, ap, ◌-◌, length, get_or, arith}
 use Rattle.outgoing.specs.Loss.{acked_count_of}
 use Rattle.outgoing.specs.Sound.{in_flight_of, packets_sound_of}
 use Rattle.outgoing.specs.Tracker.{no_packet}

@@ -22,7 +22,8 @@ returns-then-below-s c =
     let i = c.loop-i.i in
     let l = list_of a.self in
     let n = next a.self i (omega arith) (omega arith) (omega arith) (omega arith) in
-    sym (simp (unsound_by_delay a.last l (drop i l) _ (i - 1) n (rw c.loop-i.invariant.1 at c.if-below-s.true), and-false))
+    let h = rw c.loop-i.invariant.1 at c.if-below-s.true in
+    sym (simp (unsound_by_delay a.last l (drop i l) _ (i - 1) n (omega arith), and-false))
 
 pub returns-then-by-s : goal.returns-then-by-s
 returns-then-by-s c =

@@ -1,6 +1,6 @@
 -- What was heard is what document 01 names, by a sample that is taken once. Where nothing was newly acknowledged, no loss is new and no place is free, so only
 -- the clock is set.
-use Rattle.std.proofs.Common.{◌≡◌, sym, ap, ◌∙◌, ℕ, ◌-◌, ◌+◌, List, ◌++◌, length, take, drop, arith}
+use Rattle.std.proofs.Common.{◌≡◌, sym, ap, ◌∙◌, ℕ, ◌-◌, List, ◌++◌, length, take, drop, arith}
 use Rattle.congestion.specs.declared.numbers.Numbers.{Numbers}
 use Rattle.congestion.specs.Numbers.{accepted_of}
 use Rattle.controller.specs.declared.delays.Delays.{Delays}

@@ -1,5 +1,5 @@
 -- Past the wrap come first, so the position is looked for there and then before it.
-use Rattle.std.proofs.Common.{◌≡◌, sym, ap, ap₂, ◌∙◌, ℕ, ◌+◌, ◌-◌, ◌<◌, ◌≤◌, true, length, get_or, arith}
+use Rattle.std.proofs.Common.{◌≡◌, sym, ap, ap₂, ◌∙◌, ℕ, ◌+◌, ◌-◌, ◌<◌, true, length, get_or, arith}
 use Rattle.std.proofs.Math.Seq.{slice}
 use Rattle.common.specs.Answer.{done}
 use Rattle.seq.specs.declared.SeqNum.{SeqNum}

@@ -1,5 +1,5 @@
 -- 19 first, then the checks in their order; a passed one is what `acknowledged` makes of it.
-use Rattle.std.proofs.Common.{◌≡◌, refl, sym, ap, ◌∙◌, length}
+use Rattle.std.proofs.Common.{refl, sym, ap, ◌∙◌, length}
 use Rattle.seq.specs.declared.Offset.{Offset}
 use Rattle.outgoing.specs.Tracker.{offset_in}
 use Rattle.outgoing.specs.Ack.{ack_check, ack_of}

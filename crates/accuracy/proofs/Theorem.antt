@@ -83,7 +83,7 @@ module _ (s : Settings) (delay base len in_flight : ℕ) (a : Allowed s len in_f
 
   in_use : InUse s.gain G s.increase s.target_delay off len in_flight
   in_use =
-      let r = settings_facts s a.settings_in_lem in
+      let r = settings_facts s a.settings_in in
       record {
         gain_is = gain_whole s.gain a.gain_an_f64 r.gain_in;
         gain_from = whole_gain_from s.gain a.gain_an_f64 r.gain_in;
@@ -91,7 +91,7 @@ module _ (s : Settings) (delay base len in_flight : ℕ) (a : Allowed s len in_f
         increase_in = r.increase_in;
         target_in = r.target_in;
         off_to = off_size s.target_delay delay base r.target_in.1;
-        in_flight_in_lem = a.in_flight_in_lem;
+        in_flight_in = a.in_flight_in;
         len_to = a.len_to;
       }
 
@@ -99,7 +99,7 @@ module _ (s : Settings) (delay base len in_flight : ℕ) (a : Allowed s len in_f
   unfolding adjustment_of
   some_in_flight =
       ap (λ (b : Bool). cond b (pos 0) (to_signed 63 (product_of s.gain s.increase s.target_delay off len in_flight)))
-      (ne_eqb in_flight 0 (λ e. omega (arith, a.in_flight_in_lem.0)))
+      (ne_eqb in_flight 0 (λ e. omega (arith, a.in_flight_in.0)))
 
   whole_part : Cut (product_of s.gain s.increase s.target_delay off len in_flight) (negative off) (G * s.increase * nat_abs off * len) (denominator_of s in_flight)
   whole_part =

@@ -1,0 +1,35 @@
+use Rattle.std.proofs.Common.{◌≡◌, ℕ, ◌≤◌, ◌+◌, length, sym, ap, ◌∙◌, arith}
+use Rattle.std.proofs.Math.Seq.{slice}
+use Rattle.outgoing.specs.Lost.{lost_one, lost_count_of}
+use Rattle.outgoing.specs.Laws.Lost.{lost_one_small, count_next, count_done}
+use Rattle.sent_lent.specs.Lent.{packets_in}
+use Rattle.sent_lent.specs.Laws.LentPackets.{packets_512}
+use Rattle.sent_lent.proofs.places.lost_between.Goals as goal
+
+pub loop-i-preserved : goal.loop-i-preserved
+loop-i-preserved c =
+    let a = c.args in
+    let at = c.loop-i in
+    let kept = packets_in a.times.now a.sizes.now a.marks.now in
+    let few : a.to ≤ length kept = omega (arith, packets_512 a.times.now a.sizes.now a.marks.now c.requires.0, c.requires.2) in
+    let small = lost_one_small c.packet_at-p.result in
+    let e = c.lost_one-count.ensures in
+    record {
+      counted = ap (λ (n : ℕ). at.count + n + lost_count_of (slice (at.i + 1) a.to kept)) (e ∙ ap lost_one c.packet_at-p.ensures)
+          ∙ count_next kept a.to few at.i c.loop-i-test.true at.count
+          ∙ at.invariant.counted;
+      past_from = omega arith;
+      within = omega arith;
+      few = omega arith;
+    }
+
+pub returns : goal.returns
+returns c =
+    let a = c.args in
+    let at = c.loop-i in
+    let kept = packets_in a.times.now a.sizes.now a.marks.now in
+    let few : a.to ≤ length kept = omega (arith, packets_512 a.times.now a.sizes.now a.marks.now c.requires.0, c.requires.2) in
+    let e : at.i ≡ a.to = omega arith in (
+      sym (count_done kept a.to few at.count) ∙ ap (λ (n : ℕ). at.count + lost_count_of (slice n a.to kept)) (sym e) ∙ at.invariant.counted,
+      omega (arith, c.requires.2),
+    )
