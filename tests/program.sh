@@ -33,6 +33,10 @@ statuses() {
     case_of "$1: standard input" 0 sh -c '"$0" < "$1"' "$script" "$sample"
     held "the sample's lines" cmp -s "$room/wrote" "$lines"
     held "nothing is said" is_silent
+    cp "$sample" "$(printf '%s/\377' "$room")"
+    case_of "$1: a name that is no UTF-8" 0 "$script" "$(printf '%s/\377' "$room")"
+    held "the sample's lines" cmp -s "$room/wrote" "$lines"
+    held "nothing is said" is_silent
     case_of "$1: no such file" 1 "$script" "$room/none"
     held "it is said" says "none: No such file"
     held "no line is written" wrote_nothing

@@ -4,8 +4,7 @@
 # FILES  the files that it takes, as --help shows them: 'FIRST SECOND' are both needed, '[FILE]' may be left out.
 # INPUT  what it reads on standard input where no file is named, for who waits at a terminal.
 # TEXT   what it does, for --help.
-# A Rattle program has no exit status of its own: it writes to standard error where something failed,
-# and only then. So the status is
+# A program of crates/ writes to standard error where something failed, and only then. So the status is
 #   0  a result was printed (a line `bad` is a result)
 #   1  something could not be read or written
 #   2  wrong use: the program was not run
@@ -97,7 +96,7 @@ build() {
 }
 
 program() {
-  local name=$1 input=$3 word status=0
+  local name=$1 input=$3 word fd status=0 words=()
   for word in "${@:5}"; do
     if [ "$word" = --help ]; then help "$@"; exit 0; fi
   done
@@ -108,9 +107,17 @@ program() {
   if [ $# -eq 0 ] && [ -t 0 ]; then
     echo "$name: waiting for $input on standard input (Ctrl-D ends it; ./$name --help says more)" >&2
   fi
+  # The program names files by text. One whose name is no UTF-8 is opened here, and handed on by its number.
+  for word in "$@"; do
+    if ! printf %s "$word" | iconv -f UTF-8 -t UTF-8 > /dev/null 2>&1 && [ -r "$word" ]; then
+      exec {fd}< "$word"
+      word=/dev/fd/$fd
+    fi
+    words+=("$word")
+  done
   said=$(mktemp)
   trap 'rm -f "$said"' EXIT
-  $run "$root/crates/$name/out/$name" "$@" 2> "$said" || status=$?
+  $run "$root/crates/$name/out/$name" "${words[@]}" 2> "$said" || status=$?
   if [ -s "$said" ]; then
     cat "$said" >&2
     exit 1
