@@ -1,6 +1,6 @@
 -- What is shown of an exported function, over the very clauses of its source: it has no `requires`, its `ensures` is the one fact `post`, and of `post` there is one outcome (`Rattle.common.specs.Promise`).
--- The borrow checker does not read such a function's clauses, so that they say this is an equation here.
-use mathlib.Core.Path.{◌≡◌}
+-- It is shown of the clauses themselves and of no plain reading of them: that they say this is an equation here.
+use Rattle.std.specs.Prelude.{◌≡◌}
 use seplogic.Ra.Ura.{Ura}
 use base.Logic.{SProp, emp}
 use prog.Memory.{Memory}

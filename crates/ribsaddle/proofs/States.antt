@@ -1,14 +1,12 @@
 -- What stands behind a pointer as a state, and each struct of an answer and a state: for the walks of crates/walks. Assumes nothing.
-use mathlib.Core.Path.{◌≡◌, ap, sym, ◌∙◌}
-use Prim.Native.Nat.{ℕ}
-use mathlib.Core.List.{List, map-id, [], ◌∷◌}
+use Rattle.std.specs.Prelude.{◌≡◌, refl, List, [], ◌∷◌}
 use seplogic.Ra.Ura.{Ura}
 use mir.Syntax.{Sym, w8, w32, w64, ty_int, ty_array}
 use mir.Val.{Val}
 use types.Logic.{Logic}
 use denote.RattleType.{Denots}
 use denote.Laws.{Is, Lawfuls}
-use denote.Struct.Field.{u8-field, u32-field, u64-field, array_field}
+use denote.Builtin.{Array, u8, u32, u64}
 use denote.Struct.Members.{Member, rows_of}
 use denote.Struct.Laws as LL
 use Rattle.recv.specs.declared.ReceiveBuffer.{ReceiveBuffer}
@@ -111,7 +109,7 @@ counting =
     }
 
 abbrev pub table : Member
-table = record { row = (array_field u32-field 256).row; ty = ty_array (ty_int w32) 256 }
+table = record { row = Array u32 tt 256; ty = ty_array (ty_int w32) 256 }
 
 abbrev pub receiver_name : Sym
 receiver_name = (Parts.struct).name
@@ -119,20 +117,20 @@ receiver_name = (Parts.struct).name
 abbrev pub receiver_to : Receiver → Denots (rows_of (state_member counts ∷ table ∷ []))
 receiver_to = (Parts.the_type).to
 
-abbrev pub receiver-one : (x y : Receiver) → receiver_to x ≡ receiver_to y → x ≡ y
-receiver-one = (Parts.the_type).to_one
+abbrev pub receiver_one : (x y : Receiver) → receiver_to x ≡ receiver_to y → x ≡ y
+receiver_one = (Parts.the_type).to_one
 
 abbrev pub receiver_lawful : (M : Type 1) (𝓤 : Ura M) (𝓛 : Logic 𝓤) → Lawfuls 𝓛 (rows_of (state_member counts ∷ table ∷ []))
 receiver_lawful M 𝓤 𝓛 = LL.lawfuls 𝓛 (Parts.the_type).parts Parts'.the_laws
 
 -- the table in memory is the list itself
 pub stored : (t : Receiver) {X : Type 0} (f : ReceiveBuffer → X) → f (whole t.counts (receiver_to t).1.0) ≡ f (whole_of t)
-stored t f = ap (λ (l : List ℕ). f (whole t.counts l)) (map-id t.waiting)
+stored t f = refl
 
 pub next_is :
     (t : Receiver) (f : ReceiveBuffer → ReceiveBuffer)
     → (counts.T.to (counts_of (f (whole t.counts (receiver_to t).1.0))), ((f (whole t.counts (receiver_to t).1.0)).waiting, tt)) ≡ receiver_to (parts_of (f (whole_of t)))
-next_is t f = λ i. (counts.T.to (counts_of (stored t f i)), ((stored t (λ s. (f s).waiting) ∙ sym (map-id (f (whole_of t)).waiting)) i, tt))
+next_is t f = refl
 
 -- ---- the tracker in parts: its head, a state, and its arrays
 
@@ -152,16 +150,16 @@ heading =
     }
 
 abbrev pub samples : Member
-samples = record { row = (array_field u64-field 2048).row; ty = ty_array (ty_int w64) 2048 }
+samples = record { row = Array u64 tt 2048; ty = ty_array (ty_int w64) 2048 }
 
 abbrev pub times : Member
-times = record { row = (array_field u64-field 512).row; ty = ty_array (ty_int w64) 512 }
+times = record { row = Array u64 tt 512; ty = ty_array (ty_int w64) 512 }
 
 abbrev pub sizes : Member
-sizes = record { row = (array_field u32-field 1024).row; ty = ty_array (ty_int w32) 1024 }
+sizes = record { row = Array u32 tt 1024; ty = ty_array (ty_int w32) 1024 }
 
 abbrev pub marks : Member
-marks = record { row = (array_field u8-field 2048).row; ty = ty_array (ty_int w8) 2048 }
+marks = record { row = Array u8 tt 2048; ty = ty_array (ty_int w8) 2048 }
 
 abbrev pub tracker_name : Sym
 tracker_name = (T.struct).name
@@ -169,8 +167,8 @@ tracker_name = (T.struct).name
 abbrev pub tracker_to : Tracker → Denots (rows_of (state_member head ∷ samples ∷ times ∷ sizes ∷ marks ∷ []))
 tracker_to = (T.the_type).to
 
-abbrev pub tracker-one : (x y : Tracker) → tracker_to x ≡ tracker_to y → x ≡ y
-tracker-one = (T.the_type).to_one
+abbrev pub tracker_one : (x y : Tracker) → tracker_to x ≡ tracker_to y → x ≡ y
+tracker_one = (T.the_type).to_one
 
 abbrev pub tracker_lawful :
     (M : Type 1) (𝓤 : Ura M) (𝓛 : Logic 𝓤) → Lawfuls 𝓛 (rows_of (state_member head ∷ samples ∷ times ∷ sizes ∷ marks ∷ []))
@@ -181,25 +179,13 @@ abbrev in_memory : Tracker → SentPackets
 in_memory t = sent_in t.head (tracker_to t).1.0 (tracker_to t).1.1.0 (tracker_to t).1.1.1.0 (tracker_to t).1.1.1.1.0
 
 pub sent_stored : (t : Tracker) {X : Type 0} (f : SentPackets → X) → f (in_memory t) ≡ f (sent_whole t)
-sent_stored t f = λ i. f (sent_in t.head (map-id t.samples i) (map-id t.times i) (map-id t.sizes i) (map-id t.marks i))
+sent_stored t f = refl
 
-pub sent-next :
+pub sent_next :
     (t : Tracker) (f : SentPackets → SentPackets)
     → (head.T.to (head_of (f (in_memory t))), (pairs_of (f (in_memory t)).delays.kept, (times_of (f (in_memory t)).packets, (sizes_of (f (in_memory t)).packets, (marks_of (f (in_memory t)).packets, tt)))))
     ≡ tracker_to (sent_parts (f (sent_whole t)))
-sent-next t f = λ i. (
-  head.T.to (head_of (sent_stored t f i)),
-  (
-    (sent_stored t (λ s. pairs_of (f s).delays.kept) ∙ sym (map-id (pairs_of (f (sent_whole t)).delays.kept))) i,
-    (
-      (sent_stored t (λ s. times_of (f s).packets) ∙ sym (map-id (times_of (f (sent_whole t)).packets))) i,
-      (
-        (sent_stored t (λ s. sizes_of (f s).packets) ∙ sym (map-id (sizes_of (f (sent_whole t)).packets))) i,
-        ((sent_stored t (λ s. marks_of (f s).packets) ∙ sym (map-id (marks_of (f (sent_whole t)).packets))) i, tt),
-      ),
-    ),
-  ),
-)
+sent_next t f = refl
 
 -- what lies in memory at the arrays' types has their lengths
 pub sized :

@@ -12,7 +12,7 @@ use seq::SeqNum;
 
 // A header. `packet_type` is the type's number.
 #[repr(C)]
-#[derive(Drop)]
+#[derive(Clone, Copy)]
 pub struct HeaderFields {
     pub packet_type: u8,
     pub conn_id: u16,
@@ -26,7 +26,7 @@ pub struct HeaderFields {
 // A packet that was read: its header, and the places and lengths of its SACK (length 0: none) and its
 // payload in the datagram.
 #[repr(C)]
-#[derive(Drop)]
+#[derive(Clone, Copy)]
 pub struct PacketFields {
     pub header: HeaderFields,
     pub sack_at: usize,
@@ -36,7 +36,7 @@ pub struct PacketFields {
 }
 
 // An answer's number, and the packet beside it.
-#[derive(Drop)]
+#[derive(Clone, Copy)]
 pub(crate) struct Reading {
     pub answer: u32,
     pub packet: PacketFields,

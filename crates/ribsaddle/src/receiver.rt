@@ -15,21 +15,21 @@ use seq::SeqNum;
 
 // A receiver in two parts, in memory the same as `ReceiveBuffer`: its table can be lent alone.
 #[repr(C)]
-#[derive(Drop)]
+#[derive(Clone, Copy)]
 pub struct Receiver {
     pub counts: Counts,
     pub waiting: [u32; 256],
 }
 
 // An answer's number, and the counts beside it.
-#[derive(Drop)]
+#[derive(Clone, Copy)]
 pub(crate) struct Counting {
     pub answer: u32,
     pub counts: Counts,
 }
 
 // An answer's number, and the state beside it.
-#[derive(Drop)]
+#[derive(Clone, Copy)]
 pub(crate) struct Receiving {
     pub answer: u32,
     pub state: ReceiveBuffer,

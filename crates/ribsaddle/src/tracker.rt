@@ -18,7 +18,7 @@ use seq::SeqNum;
 // whether it is acknowledged, lost and resent at the three places after. `samples` has the delay of
 // the sample at place i at 2i, and its time at 2i + 1.
 #[repr(C)]
-#[derive(Drop)]
+#[derive(Clone, Copy)]
 pub struct Tracker {
     pub head: Head,
     pub samples: [u64; 2048],
@@ -28,14 +28,14 @@ pub struct Tracker {
 }
 
 // An answer's number, and the head beside it.
-#[derive(Drop)]
+#[derive(Clone, Copy)]
 pub(crate) struct Heading {
     pub answer: u32,
     pub head: Head,
 }
 
 // An answer's number, and the tracker beside it.
-#[derive(Drop)]
+#[derive(Clone, Copy)]
 pub(crate) struct Starting {
     pub answer: u32,
     pub state: Tracker,

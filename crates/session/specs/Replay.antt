@@ -1,6 +1,6 @@
 -- A replay as the library's functions give it: what a file answers, and what a step makes of any replay, a forged one among them. Laws.Printed shows that the steps from a
 -- file's start print what the document says. Definitions only.
-use Rattle.std.specs.Prelude.{ℕ, zero, suc, ◌+◌, ◌-◌, Bool, true, false, not, ◌&&◌, cond, List, [], ◌∷◌, ◌++◌, leb, eqb, pos, length, take, drop}
+use Rattle.std.specs.Prelude.{ℕ, zero, suc, ◌+◌, Bool, true, false, not, ◌&&◌, cond, List, [], ◌∷◌, ◌++◌, leb, eqb, pos, length, take, drop}
 use Rattle.std.specs.Float.{fin}
 use Rattle.common.specs.Answer.{Answer, done, refused}
 use Rattle.common.specs.Laws.Put.{put}

@@ -8,14 +8,14 @@ use crate::number::{read32, read64};
 
 // Where the events and the SACK bytes of a file are: `count` events from the place EVENTS on, and the
 // SACK bytes from `sack_at` to the end.
-#[derive(Drop)]
+#[derive(Clone, Copy)]
 pub(crate) struct Layout {
     pub count: u32,
     pub sack_at: usize,
 }
 
 // Where they are, or a file that is no session (20).
-#[derive(Drop)]
+#[derive(Clone, Copy)]
 pub(crate) enum Checked {
     BadSession,
     Good(Layout),
@@ -25,7 +25,7 @@ pub(crate) enum Checked {
 pub(crate) const EVENTS: usize = 72;
 
 // What a walk over the events finds.
-#[derive(Drop)]
+#[derive(Clone, Copy)]
 struct Walk {
     fine: bool,
     total: u64,

@@ -5,7 +5,7 @@ ghost use Rattle.session.specs.Format.{event_of, is_ack, is_known, sack_size};
 use crate::number::{read8, read16, read32, read64};
 
 // `size` is the length of a transmit, or the SACK byte count of an ack.
-#[derive(Drop)]
+#[derive(Clone, Copy)]
 pub struct Event {
     pub kind: u8,
     pub packet_type: u8,

@@ -7,7 +7,7 @@ ghost use Rattle.session.specs.Answers.{written, wrote_of, pair_text, bad_number
 use crate::number::wide64;
 
 // An event's index, the answer's number, and what the tracker then shows.
-#[derive(Drop)]
+#[derive(Clone, Copy)]
 pub struct Line {
     pub index: u64,
     pub answer: u64,
@@ -18,14 +18,14 @@ pub struct Line {
 }
 
 // Why a file is refused: it is no session (20), or a setting is out of range (10).
-#[derive(Drop)]
+#[derive(Clone, Copy)]
 pub enum Bad {
     BadSession,
     BadSetting,
 }
 
 // The place behind what was written, or too little room (9).
-#[derive(Drop)]
+#[derive(Clone, Copy)]
 pub enum Written {
     Behind(usize),
     NoRoom,

@@ -16,7 +16,7 @@ pub struct Replay {
 }
 
 // What a file answers: it may be replayed, or is refused (20, 10).
-#[derive(Drop)]
+#[derive(Clone, Copy)]
 pub enum Start {
     Ready,
     Refused(Bad),
@@ -30,7 +30,7 @@ pub struct Started {
 
 // Why a step is refused, which no replay of a file from its start meets: the event or its SACK bytes
 // are not in the file, or the event is not known (20), or the tracker is not sound (19).
-#[derive(Drop)]
+#[derive(Clone, Copy)]
 pub enum StepReason {
     BadSession,
     NotSound,
@@ -48,7 +48,7 @@ impl StepReason {
     }
 }
 
-#[derive(Drop)]
+#[derive(Clone, Copy)]
 pub enum Told {
     Event(Line),
     Ended,

@@ -17,7 +17,7 @@ use sent::state::SentPackets;
 use seq::SeqNum;
 
 // An event of the file, if it is there and known.
-#[derive(Drop)]
+#[derive(Clone, Copy)]
 enum Found {
     Known(Event),
     BadSession,

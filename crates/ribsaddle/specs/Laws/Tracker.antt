@@ -1,5 +1,5 @@
 -- The tracker in parts: what its arrays hold is what stands in the state, and what a call leaves of them.
-use Rattle.std.specs.Prelude.{◌≡◌, refl, Bool, true, false, cond, List, [], ◌∷◌, ◌++◌, ℕ, zero, suc, ◌+◌, ◌*◌, leb, length, take, drop, replicate}
+use Rattle.std.specs.Prelude.{◌≡◌, refl, Bool, true, false, cond, List, [], ◌∷◌, ◌++◌, ℕ, zero, suc, ◌*◌, leb, length, take, drop, replicate}
 use Rattle.std.proofs.Common.{sym, ap, subst, ◌∙◌, arith}
 use Rattle.common.specs.Answer.{Answer, done, refused, ◌then◌}
 use Rattle.packet.specs.Kind.{type_answer}
