@@ -1,16 +1,18 @@
 #!/usr/bin/env bash
-# The proofs of the exported functions and their walks are what tools/exports.py writes.
+# The walks of the exported functions, the proofs by them and the promises are what tools/exports.py writes.
 set -euo pipefail
 cd "$(dirname "$0")/.."
 . tests/toolchain.sh
 copy=$(mktemp -d)
 trap 'rm -rf "$copy"' EXIT
-mkdir "$copy/crates"
-cp -a crates/ribsaddle crates/walks "$copy/crates/"
+for part in ribsaddle/src ribsaddle/specs ribsaddle/proofs walks/src walks/specs; do
+  mkdir -p "$copy/crates/$part"
+  cp -a "crates/$part/." "$copy/crates/$part/"
+done
 cp -a tools "$copy/"
-printf 'walks:\nribsaddle: walks\n' > "$copy/crates.txt"
+printf 'walks:\nribsaddle staticlib: walks\n' > "$copy/crates.txt"
 cd "$copy"
 python3 tools/exports.py
-rt fmt > /dev/null
+for crate in walks ribsaddle; do (cd "crates/$crate" && rt fmt > /dev/null); done
 cd - > /dev/null
 for part in ribsaddle/proofs walks/specs; do diff -r "crates/$part" "$copy/crates/$part"; done
