@@ -648,7 +648,7 @@ impl ReceiveBuffer {
     }
 }
 
-// Tells of a table by value that it has 256 places, which a lent one does not tell. Nothing is done.
+// Tells of a table by value that it has 256 places. Nothing is done.
 fn tell_places(table: [u32; 256])
     ensures { length table ≡ 256 }
 {}

@@ -41,7 +41,7 @@ pub struct Stepped {
     pub head: Head,
 }
 
-// Tells of arrays by value that they have their places, which lent ones do not tell. Nothing is done.
+// Tells of arrays by value that they have their places. Nothing is done.
 fn tell_places(samples: [u64; 2048], times: [u64; 512], sizes: [u32; 1024], marks: [u8; 2048])
     ensures { (length samples ≡ 2048) × (Places times sizes marks) }
 {}

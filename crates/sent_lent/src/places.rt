@@ -35,8 +35,7 @@ pub(crate) fn packet_at(
     }
 }
 
-// Puts a packet at a place. That the arrays keep their lengths is promised too: a lent array does not
-// tell it.
+// Puts a packet at a place. That the arrays keep their lengths is promised too.
 pub(crate) fn put_packet(
     times: &mut [u64; 512],
     sizes: &mut [u32; 1024],
