@@ -216,8 +216,8 @@ pub record Premises (b : Start) (run : List Event) : Type 0 where
   -- Every acknowledgement the sender hears was built by that receiver earlier in the run, number and SACK at one moment.
   pub built : BuiltEarlier run
   -- Each end goes on from the state and buffer its own last call left, and nobody else touches them.
-  pub sender-goes_on : SenderGoesOn b run
-  pub receiver-goes_on : ReceiverGoesOn b run
+  pub sender_goes_on : SenderGoesOn b run
+  pub receiver_goes_on : ReceiverGoesOn b run
   pub buffer_goes_on : BufferGoesOn b run
 
 -- ---- what is then always so
@@ -248,7 +248,7 @@ abbrev pub AllAcked : Tracker → Type 0
 AllAcked t = (o : ℕ) → 1 ≤ o → o ≤ t.sent → held_acked t o ≡ true
 
 pub record Delivered (b : Start) (run : List Event) : Type 0 where
-  -- bytes read plus bytes ready are exactly the first k payloads in order, k being the receiver's in_order count;
+  -- bytes read plus bytes ready are exactly the first k payloads in order, k being the receiver's in-order count;
   pub first_k : stream_of (receiver_after b run) ≡ joined_all (take (receiver_after b run).state.count (payloads run))
   pub among_sent : (receiver_after b run).state.count ≤ length (payloads run)
   -- whatever the sender holds as acknowledged, the receiver has stored, and it is what was first sent under that offset;

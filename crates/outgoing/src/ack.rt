@@ -142,7 +142,7 @@ impl Run {
 }
 
 // What an ack works on, and whether a packet was newly acknowledged (1) or none (0).
-#[derive(Drop)]
+#[derive(Clone, Copy)]
 pub struct Heard {
     pub packets: [Packet; 512],
     pub numbers: Numbers,

@@ -43,7 +43,7 @@ ReadingWritten =
 
 -- A packet read from `d` is written to a room: done, with the datagram's length as its size, and exactly its bytes are put.
 pub record WrittenAs (d : List ℕ) (p : Packet) (room : List ℕ) : Type 0 where
-  pub is_done_lem : encode_of p.header (part_of p.sack d) (part_of p.payload d) (length room) ≡ done (length d)
+  pub was_done : encode_of p.header (part_of p.sack d) (part_of p.payload d) (length room) ≡ done (length d)
   pub bytes : room_of p.header (part_of p.sack d) (part_of p.payload d) room ≡ put room 0 d
 
 -- Writing a read packet gives the same bytes when its chain is empty or is one SACK, into every room that holds it.

@@ -47,6 +47,9 @@ impl Reason {
     }
 }
 
+// The version of the protocol, which a header has in the low four bits of its first byte.
+const VERSION: u8 = 1;
+
 impl Packet {
     // The size of a header in bytes.
     pub const HEADER_LEN: usize = 20;
@@ -64,7 +67,7 @@ impl Packet {
                 HeaderReason::UnknownType,
             )),
             TypeRead::Known(packet_type) => {
-                if first % 16 == 1 {
+                if first % 16 == VERSION {
                     decode_chain(datagram, read_header(datagram, packet_type))
                 } else {
                     Decoded::Undecoded(Reason::BadHeader(HeaderReason::UnknownVersion))

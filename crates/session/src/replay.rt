@@ -7,7 +7,7 @@ use sent::state::SentPackets;
 
 // Where a replay stands: the index of the next event and how many there are, the place of the SACK
 // bytes that are not used up yet, and the tracker. A plain value that may be forged.
-#[derive(Drop)]
+#[derive(Clone, Copy)]
 pub struct Replay {
     pub index: u32,
     pub count: u32,
@@ -22,7 +22,7 @@ pub enum Start {
     Refused(Bad),
 }
 
-#[derive(Drop)]
+#[derive(Clone, Copy)]
 pub struct Started {
     pub answer: Start,
     pub replay: Replay,
@@ -55,14 +55,14 @@ pub enum Told {
     Refused(StepReason),
 }
 
-#[derive(Drop)]
+#[derive(Clone, Copy)]
 pub struct Stepped {
     pub told: Told,
     pub replay: Replay,
 }
 
 // How much of a room is filled, whether no event is left to print, and where the replay then stands.
-#[derive(Drop)]
+#[derive(Clone, Copy)]
 pub struct Filled {
     pub used: usize,
     pub ended: bool,

@@ -41,7 +41,7 @@ pub record Running (n : Numbers) : Type 0 where
   pub maximum_from : minimum_of n ≤ n.maximum
   pub trip_to : n.trip ≤ latest
   pub variance_to : n.variance ≤ latest
-  pub timeout_in_lem : (1 ≤ n.timeout) × (n.timeout ≤ longest_timeout)
+  pub timeout_in : (1 ≤ n.timeout) × (n.timeout ≤ longest_timeout)
   pub last_to : n.last ≤ latest
 
 pub record Sound (n : Numbers) : Type 0 where
@@ -74,7 +74,7 @@ running_of n e =
       maximum_from = leb-true _ _ r.0;
       trip_to = leb-true _ _ r.1;
       variance_to = leb-true _ _ v.1;
-      timeout_in_lem = between_of _ _ _ t.1;
+      timeout_in = between_of _ _ _ t.1;
       last_to = leb-true _ _ l.1;
     }
 
@@ -97,7 +97,7 @@ sound_from n s =
     (between_from _ _ _ r.increase_in.0 r.increase_in.1))
     r.gain_in)
     (and_of _ _ (and_of _ _ (and_of _ _ (and_of _ _ (le-leb _ _ w.maximum_from) (le-leb _ _ w.trip_to)) (le-leb _ _ w.variance_to))
-    (between_from _ _ _ w.timeout_in_lem.0 w.timeout_in_lem.1))
+    (between_from _ _ _ w.timeout_in.0 w.timeout_in.1))
     (le-leb _ _ w.last_to))
 
 -- ---- soundness is kept
@@ -121,18 +121,18 @@ moved_sound n maximum in_flight trip variance timeout last s w =
 with_window_lem : (n : Numbers) (maximum in_flight : ℕ) → Sound n → minimum_of n ≤ maximum → Sound (with_window n maximum in_flight)
 with_window_lem n maximum in_flight s h =
     let w = s.running in
-    moved_sound n maximum in_flight _ _ _ _ s (record { maximum_from = h; trip_to = w.trip_to; variance_to = w.variance_to; timeout_in_lem = w.timeout_in_lem; last_to = w.last_to })
+    moved_sound n maximum in_flight _ _ _ _ s (record { maximum_from = h; trip_to = w.trip_to; variance_to = w.variance_to; timeout_in = w.timeout_in; last_to = w.last_to })
 
 with_trip_lem : (n : Numbers) (trip variance timeout : ℕ) → Sound n → trip ≤ latest → variance ≤ latest → 1 ≤ timeout → timeout ≤ longest_timeout
     → Sound (with_trip n trip variance timeout)
 with_trip_lem n trip variance timeout s t v o o' =
     let w = s.running in
-    moved_sound n _ _ trip variance timeout _ s (record { maximum_from = w.maximum_from; trip_to = t; variance_to = v; timeout_in_lem = (o, o'); last_to = w.last_to })
+    moved_sound n _ _ trip variance timeout _ s (record { maximum_from = w.maximum_from; trip_to = t; variance_to = v; timeout_in = (o, o'); last_to = w.last_to })
 
 pub accepted_sound : (n : Numbers) (clock : ℕ) → Sound n → clock ≤ latest → Sound (accepted_of n clock)
 accepted_sound n clock s h =
     let w = s.running in
-    moved_sound n _ _ _ _ _ clock s (record { maximum_from = w.maximum_from; trip_to = w.trip_to; variance_to = w.variance_to; timeout_in_lem = w.timeout_in_lem; last_to = h })
+    moved_sound n _ _ _ _ _ clock s (record { maximum_from = w.maximum_from; trip_to = w.trip_to; variance_to = w.variance_to; timeout_in = w.timeout_in; last_to = h })
 
 pub sent_sound : (n : Numbers) (len : ℕ) → Sound n → Sound (sent_of n len)
 sent_sound n len s = with_window_lem n _ _ s s.running.maximum_from
@@ -170,7 +170,7 @@ lost_sound n s = with_window_lem n _ _ s (omega arith)
 
 pub timed_out_sound : (n : Numbers) → Sound n → Sound (timed_out_of n)
 timed_out_sound n s =
-    let t = s.running.timeout_in_lem in
+    let t = s.running.timeout_in in
     with_trip_lem (with_window n (minimum_of n) n.in_flight) _ _ _ (with_window_lem n _ _ s (omega arith)) s.running.trip_to s.running.variance_to
     (omega arith) (omega arith)
 
@@ -208,7 +208,7 @@ credited_grows_by_increase n base delay len once p =
 
 pub record InRange (s : Settings) : Type 0 where
   pub target_in : (1000 ≤ s.target_delay) × (s.target_delay ≤ 2 ^ 32 - 1)
-  pub first-timeout_in : (1 ≤ s.first_timeout) × (s.first_timeout ≤ latest)
+  pub first_timeout_in : (1 ≤ s.first_timeout) × (s.first_timeout ≤ latest)
   pub minimum_timeout_in : (1 ≤ s.minimum_timeout) × (s.minimum_timeout ≤ latest)
   pub delay_window_in : (1 ≤ s.delay_window) × (s.delay_window ≤ latest)
   pub largest_packet_in : (1 ≤ s.largest_packet) × (s.largest_packet ≤ 65535)
@@ -225,7 +225,7 @@ settings_facts s e =
     let m = both _ (between 1 latest s.minimum_timeout) d.0 in
     record {
       target_in = between_of _ _ _ t.0;
-      first-timeout_in = between_of _ _ _ m.0;
+      first_timeout_in = between_of _ _ _ m.0;
       minimum_timeout_in = between_of _ _ _ m.1;
       delay_window_in = between_of _ _ _ d.1;
       largest_packet_in = between_of _ _ _ l.1;
@@ -248,7 +248,7 @@ start_sound s h =
         maximum_from = omega arith;
         trip_to = omega arith;
         variance_to = omega arith;
-        timeout_in_lem = (h.first-timeout_in.0, omega (arith, h.first-timeout_in.1));
+        timeout_in = (h.first_timeout_in.0, omega (arith, h.first_timeout_in.1));
         last_to = omega arith;
       };
     }

@@ -214,8 +214,8 @@ premises_kept b run fresh k =
       retransmission = same_kept run k.same;
       only_accepted = accepted_kept run k.accepted;
       built = built_kept run k.built;
-      sender-goes_on = sender_kept b run k.sender;
-      receiver-goes_on = receiver_kept b run k.receiver;
+      sender_goes_on = sender_kept b run k.sender;
+      receiver_goes_on = receiver_kept b run k.receiver;
       buffer_goes_on = buffer_kept b run k.buffer;
     }
 

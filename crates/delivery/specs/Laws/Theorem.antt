@@ -553,8 +553,8 @@ earlier b e _ k =
       retransmission = λ s x before h. k.retransmission s x before (inr h);
       only_accepted = λ d before h. k.only_accepted d before (inr h);
       built = λ s a delay clock before h. k.built s a delay clock before (inr h);
-      sender-goes_on = λ s call before h. k.sender-goes_on s call before (inr h);
-      receiver-goes_on = λ s buf call before h. k.receiver-goes_on s buf call before (inr h);
+      sender_goes_on = λ s call before h. k.sender_goes_on s call before (inr h);
+      receiver_goes_on = λ s buf call before h. k.receiver_goes_on s buf call before (inr h);
       buffer_goes_on = λ s buf call before h. k.buffer_goes_on s buf call before (inr h);
     }
 
@@ -563,21 +563,21 @@ module _ (b : Start) (initial : SeqNum) (fits : initial.0 < 2 ^ 16) (run : List 
   unfolding Happens
   sender_step s (transmit x) k =
       subst (λ (q : SentPackets). (accepted q x ≡ true → is_first q x ≡ false → FirstSent (carried x) run) → Inv b initial (at_sender q (transmit x) ∷ run))
-      (sym (k.sender-goes_on s (transmit x) run (inl (refl, refl))))
+      (sym (k.sender_goes_on s (transmit x) run (inl (refl, refl))))
       (after_transmit b initial fits run inv x)
       (k.retransmission s x run (inl (refl, refl)))
   sender_step s (hear a delay clock) k =
       subst (λ (q : SentPackets). Inv b initial (at_sender q (hear a delay clock) ∷ run))
-      (sym (k.sender-goes_on s (hear a delay clock) run (inl (refl, refl))))
+      (sym (k.sender_goes_on s (hear a delay clock) run (inl (refl, refl))))
       (after_hearing b initial fits run inv a delay clock (k.built s a delay clock run (inl (refl, refl))))
   sender_step s time_out k =
-      subst (λ (q : SentPackets). Inv b initial (at_sender q time_out ∷ run)) (sym (k.sender-goes_on s time_out run (inl (refl, refl)))) (after_timeout b initial fits run inv)
+      subst (λ (q : SentPackets). Inv b initial (at_sender q time_out ∷ run)) (sym (k.sender_goes_on s time_out run (inl (refl, refl)))) (after_timeout b initial fits run inv)
 
   receiver_step : (s : ReceiveBuffer) (buf : List ℕ) (call : ReceiverCall) → Premises b (at_receiver s buf call ∷ run) → Inv b initial (at_receiver s buf call ∷ run)
   unfolding Happens
   receiver_step s buf call k =
       subst₂ (λ (q : ReceiveBuffer) (m : List ℕ). Inv b initial (at_receiver q m call ∷ run))
-      (sym (k.receiver-goes_on s buf call run (inl (refl, refl))))
+      (sym (k.receiver_goes_on s buf call run (inl (refl, refl))))
       (sym (k.buffer_goes_on s buf call run (inl (refl, refl))))
       (after call k)
     where

@@ -50,8 +50,8 @@ pub writing_read : WritingRead
 unfolding encode_of
 writing_read d p room all accepted chain enough =
     let k = again d p all accepted chain in
-    let is_done_lem : encode_of p.header (part_of p.sack d) (part_of p.payload d) (length room) ≡ done (length d) = simp (k.mask, k.payload, k.bytes, le-ltb _ _ enough) in
+    let was_done : encode_of p.header (part_of p.sack d) (part_of p.payload d) (length room) ≡ done (length d) = simp (k.mask, k.payload, k.bytes, le-ltb _ _ enough) in
     record {
-      is_done_lem = is_done_lem;
-      bytes = ap (λ (a : Answer ℕ). written_to a (packet_bytes p.header (part_of p.sack d) (part_of p.payload d)) room) is_done_lem ∙ ap (put room 0) k.bytes;
+      was_done = was_done;
+      bytes = ap (λ (a : Answer ℕ). written_to a (packet_bytes p.header (part_of p.sack d) (part_of p.payload d)) room) was_done ∙ ap (put room 0) k.bytes;
     }

@@ -1,3 +1,4 @@
+-- Each way round keeps what Invariants.antt beside this says, and at the end it is what the contract says.
 use Rattle.std.proofs.Common.{◌∙◌, sym, ap}
 use Rattle.packet.specs.Chain.{end_of, chain_from}
 use Rattle.packet.specs.Laws.Chain.{chain_ends, chain_past, chain_found, end_before}

@@ -1,3 +1,4 @@
+-- Each way round keeps what Invariants.antt beside this says, and at the end it is what the contract says.
 use Rattle.std.proofs.Common.{◌∙◌, sym, ap, ne_eqb, eq-eqb}
 use Rattle.packet.specs.Chain.{read_of, chain_from}
 use Rattle.packet.specs.Laws.Chain.{chain_ends, chain_past, chain_found, read_before, read_sack, read_past}

@@ -1,3 +1,4 @@
+-- Each way round keeps what Invariants.antt beside this says, and at the end it is what the contract says.
 use Rattle.std.proofs.Common.{◌+◌, ℕ, List, ◌∙◌, arith, ap, sym, set, get_or}
 use Rattle.common.specs.Laws.Put.{put_more, put-none}
 use Rattle.packet.proofs.number.put_all.Goals as goal

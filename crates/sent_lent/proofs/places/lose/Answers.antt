@@ -1,3 +1,4 @@
+-- Each way round keeps what Invariants.antt beside this says, and at the end it is what the contract says.
 use Rattle.std.proofs.Common.{◌≡◌, ℕ, ◌<◌, ◌≤◌, ◌+◌, ◌-◌, List, length, take, drop, get_or, set, sym, ap, ap₂, ◌∙◌, arith}
 use Rattle.congestion.specs.declared.numbers.Numbers.{Numbers}
 use Rattle.congestion.specs.Numbers.{lost_of, when_sound}

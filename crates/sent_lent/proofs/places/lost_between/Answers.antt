@@ -1,3 +1,4 @@
+-- Each way round keeps what Invariants.antt beside this says, and at the end it is what the contract says.
 use Rattle.std.proofs.Common.{◌≡◌, ℕ, ◌≤◌, ◌+◌, length, sym, ap, ◌∙◌, arith}
 use Rattle.std.proofs.Math.Seq.{slice}
 use Rattle.outgoing.specs.Lost.{lost_one, lost_count_of}

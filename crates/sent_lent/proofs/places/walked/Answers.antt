@@ -1,3 +1,4 @@
+-- Each way round keeps what Invariants.antt beside this says, and at the end it is what the contract says.
 use Rattle.std.proofs.Common.{◌≡◌, ◌-◌, ◌∷◌, sym, ap, ◌∙◌, arith, take, drop}
 use Rattle.outgoing.specs.declared.kept.Packet.{Packet}
 use Rattle.outgoing.specs.Loss.{acked_count_of}

@@ -11,4 +11,4 @@ overflow_mul-next c =
 pub overflow_mul-self : goal.overflow_mul-self
 overflow_mul-self c =
     let s = sound_facts c.args.self (sym c.sound.ensures ∙ c.if-not-sound.false) in
-    omega (arith, s.running.timeout_in_lem.1)
+    omega (arith, s.running.timeout_in.1)

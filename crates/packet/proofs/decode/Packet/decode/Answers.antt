@@ -16,16 +16,16 @@ returns-in-UnknownType c =
     let d = c.args.datagram.now in
     sym (decode_type d c.if-datagram-lt20.false (type_unknown (get_or d 0 0 / 16) c.in-UnknownType.ensures))
 
-pub returns-then-first-eq1 : goal.returns-then-first-eq1
-returns-then-first-eq1 c =
+pub returns-then-first-eq-VERSION : goal.returns-then-first-eq-VERSION
+returns-then-first-eq-VERSION c =
     let d = c.args.datagram.now in
     let kind = type_known (get_or d 0 0 / 16) c.in-Known.packet_type c.in-Known.ensures in
     c.decode_chain.ensures
     ∙ (ap (λ (h : Header). behind_header h (length d) (chain_of d)) (c.read_header.ensures ∙ ap (λ (k : PacketType). header_with k d) kind.1)
-    ∙ sym (decode_behind d c.if-datagram-lt20.false kind.0 c.if-first-eq1.true))
+    ∙ sym (decode_behind d c.if-datagram-lt20.false kind.0 c.if-first-eq-VERSION.true))
 
-pub returns-else-first-eq1 : goal.returns-else-first-eq1
-returns-else-first-eq1 c =
+pub returns-else-first-eq-VERSION : goal.returns-else-first-eq-VERSION
+returns-else-first-eq-VERSION c =
     let d = c.args.datagram.now in
     let kind = type_known (get_or d 0 0 / 16) c.in-Known.packet_type c.in-Known.ensures in
-    sym (decode_version d c.if-datagram-lt20.false kind.0 c.if-first-eq1.false)
+    sym (decode_version d c.if-datagram-lt20.false kind.0 c.if-first-eq-VERSION.false)
