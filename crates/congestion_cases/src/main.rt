@@ -3,22 +3,31 @@
 
 #![tactic(auto)]
 
+use feed::Source;
+use report::failure::fail;
+use std::fs;
+use std::fs::File;
+use std::io::Result;
+use std::rt::Files;
+
 mod event;
 mod session;
 
-fn replay(name: &[u8]) {
-    let fd = os::open_read(name);
-    if fd < 0 {
-        os::fail(name);
-        return;
+fn replay(rt: &(impl Print + Eprint + Files<File = File>), name: &str) -> Result<()> {
+    match fs::open(rt, name) {
+        Ok(file) => {
+            let totals = session::replay(Source::Opened(file));
+            totals.sessions.print(rt, b"sessions")?;
+            totals.events.print(rt, name.as_bytes())
+        }
+        Err(error) => {
+            fail(rt, name, &error);
+            Ok(())
+        }
     }
-    let totals = session::replay(fd);
-    libc::close(fd);
-    totals.sessions.print(b"sessions");
-    totals.events.print(name);
 }
 
-fn main() {
-    replay(b"congestion.bin");
-    replay(b"congestion-clock.bin");
+fn main(rt: HostRuntime) -> Result<()> {
+    replay(&rt, "congestion.bin")?;
+    replay(&rt, "congestion-clock.bin")
 }

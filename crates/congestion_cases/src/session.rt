@@ -2,7 +2,7 @@
 use crate::event::{compare, number_of};
 use congestion::settings::Settings;
 use controller::state::{Controller, Outcome};
-use feed::{Feed, both};
+use feed::{Feed, Source, both};
 use report::tally::Tally;
 
 // The widths of the eight settings, the answer and the count of events.
@@ -67,10 +67,11 @@ fn all_events(run: Run, window: &mut [u8], count: u64) -> Run {
 }
 
 // A session whose head was taken.
-fn run_session(totals: Totals, settings: [u64; 10], feed: Feed, window: &mut [u8]) -> Totals {
+fn run_session(totals: Totals, settings: [u64; 10], window: &mut [u8]) -> Totals {
     let outcome = started(settings);
     let controller = outcome.controller;
     let answer = outcome.answer;
+    let feed = totals.feed;
     let is_same = both(number_of(answer) == settings[8], !feed.short);
     let sessions = totals.sessions;
     let events = totals.events;
@@ -95,8 +96,9 @@ fn run_session(totals: Totals, settings: [u64; 10], feed: Feed, window: &mut [u8
 
 fn session(totals: Totals, window: &mut [u8]) -> Totals {
     let mut settings = [0u64; 10];
-    let behind = totals.feed.numbers(window, &WIDTHS, &mut settings);
-    run_session(totals, settings, behind, window)
+    let mut totals = totals;
+    totals.feed = totals.feed.numbers(window, &WIDTHS, &mut settings);
+    run_session(totals, settings, window)
 }
 
 fn next_session(totals: Totals, window: &mut [u8]) -> Totals {
@@ -117,11 +119,11 @@ fn next_session(totals: Totals, window: &mut [u8]) -> Totals {
     }
 }
 
-fn replay_all(fd: i32, window: &mut [u8]) -> Totals {
+fn replay_all(source: Source, window: &mut [u8]) -> Totals {
     let mut totals = Totals {
         sessions: Tally::new(),
         events: Tally::new(),
-        feed: Feed::new(fd),
+        feed: Feed::new(source),
         goes_on: true,
     };
     for _ in 0..u64::MAX {
@@ -133,7 +135,7 @@ fn replay_all(fd: i32, window: &mut [u8]) -> Totals {
     totals
 }
 
-pub(crate) fn replay(fd: i32) -> Totals {
+pub(crate) fn replay(source: Source) -> Totals {
     let mut window = io::large_buffer();
-    replay_all(fd, &mut window)
+    replay_all(source, &mut window)
 }
