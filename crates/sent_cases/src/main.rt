@@ -3,17 +3,24 @@
 
 #![tactic(auto)]
 
-fn main() {
-    let fd = os::open_read(b"sent.bin");
-    if fd < 0 {
-        os::fail(b"sent.bin");
-        return;
+use feed::Source;
+use report::failure::fail;
+use std::fs::File;
+use std::io::Result;
+
+fn main(rt: HostRuntime) -> Result<()> {
+    match File::open(&rt, "sent.bin") {
+        Ok(file) => {
+            let totals = sent_replay::session::replay(Source::Opened(file));
+            let kinds = totals.kinds;
+            kinds.sessions.print(&rt, b"sessions")?;
+            kinds.transmits.print(&rt, b"transmit")?;
+            kinds.acks.print(&rt, b"ack")?;
+            kinds.timeouts.print(&rt, b"timeout")
+        }
+        Err(error) => {
+            fail(&rt, "sent.bin", &error);
+            Ok(())
+        }
     }
-    let totals = sent_replay::session::replay(fd);
-    libc::close(fd);
-    let kinds = totals.kinds;
-    kinds.sessions.print(b"sessions");
-    kinds.transmits.print(b"transmit");
-    kinds.acks.print(b"ack");
-    kinds.timeouts.print(b"timeout");
 }

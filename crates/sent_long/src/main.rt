@@ -3,15 +3,19 @@
 
 #![tactic(auto)]
 
+use feed::Source;
+use report::failure::fail;
 use report::text::{print, put_byte, put_bytes, put_next};
+use std::fs::File;
+use std::io::Result;
 
 // Packets sent, bytes in flight, maximum, timeout, ack number.
-fn print_end(last: [u64; 5]) {
+fn print_end(rt: &impl Print, last: [u64; 5]) -> Result<()> {
     let mut room = io::buffer();
     let used = put_bytes(&mut room, 0, b"packets, in flight, maximum, timeout, ack:");
     let used = put_numbers(&mut room, used, last);
     let used = put_byte(&mut room, used, b'\n');
-    print(&room, used);
+    print(rt, &room, used)
 }
 
 fn put_numbers(room: &mut [u8], at: usize, last: [u64; 5]) -> usize {
@@ -22,20 +26,21 @@ fn put_numbers(room: &mut [u8], at: usize, last: [u64; 5]) -> usize {
     put_next(room, place, last[4])
 }
 
-fn main() {
-    let fd = os::open_read(b"sent-long.bin");
-    if fd < 0 {
-        os::fail(b"sent-long.bin");
-        return;
+fn main(rt: HostRuntime) -> Result<()> {
+    match File::open(&rt, "sent-long.bin") {
+        Ok(file) => {
+            let totals = sent_replay::session::replay(Source::Opened(file));
+            let kinds = totals.kinds;
+            kinds.sessions.print(&rt, b"sessions")?;
+            kinds.transmits.print(&rt, b"transmit")?;
+            kinds.runs.print(&rt, b"runs of transmits")?;
+            kinds.acks.print(&rt, b"ack")?;
+            kinds.timeouts.print(&rt, b"timeout")?;
+            print_end(&rt, totals.last)
+        }
+        Err(error) => {
+            fail(&rt, "sent-long.bin", &error);
+            Ok(())
+        }
     }
-    let totals = sent_replay::session::replay(fd);
-    libc::close(fd);
-    let kinds = totals.kinds;
-    kinds.sessions.print(b"sessions");
-    kinds.transmits.print(b"transmit");
-    kinds.runs.print(b"runs of transmits");
-    kinds.acks.print(b"ack");
-    kinds.timeouts.print(b"timeout");
-    let last = totals.last;
-    print_end(last);
 }

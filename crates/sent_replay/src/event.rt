@@ -118,10 +118,11 @@ fn is_lost(told: LostTold, lost: [u64; 3]) -> bool {
 // Holds the lost packet at a position against the list's next one.
 fn held_next(held: Held, state: SentPackets, position: u64, window: &mut [u8]) -> Held {
     let mut lost = [0u64; 3];
+    let is_same = held.is_same;
     let behind = held.feed.numbers(window, &LOST, &mut lost);
     let found = state.lost_at((position % 4294967296) as u32);
     Held {
-        is_same: both(held.is_same, is_lost(found, lost)),
+        is_same: both(is_same, is_lost(found, lost)),
         feed: behind,
     }
 }
@@ -171,15 +172,14 @@ fn compare_lost(
     let state = tracked.state;
     let answer = tracked.answer;
     let held = held_lost(state, feed, window, seen[6]);
-    let behind = held.feed;
     let is_equal = both(of_outcome(answer) == seen[0], is_shown(state, seen));
-    let is_whole = both(held.is_same, !behind.short);
+    let is_whole = both(held.is_same, !held.feed.short);
     Step {
         state,
         kind,
         answer: seen[0],
         is_same: both(is_equal, is_whole),
-        feed: behind,
+        feed: held.feed,
     }
 }
 

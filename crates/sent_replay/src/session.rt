@@ -2,7 +2,7 @@
 use crate::answer::{number, of_outcome, seq};
 use crate::event::compare;
 use congestion::settings::Settings;
-use feed::{Feed, both};
+use feed::{Feed, Source, both};
 use report::tally::Tally;
 use sent::answer::Tracked;
 use sent::state::SentPackets;
@@ -12,7 +12,7 @@ use seq::SeqNum;
 const WIDTHS: [u8; 10] = [8, 8, 8, 8, 8, 8, 8, 8, 1, 4];
 
 // The sessions, and the events of each kind.
-#[derive(Drop)]
+#[derive(Clone, Copy)]
 pub struct Kinds {
     pub sessions: Tally,
     pub transmits: Tally,
@@ -178,11 +178,11 @@ fn none() -> Kinds {
     }
 }
 
-fn replay_all(fd: i32, window: &mut [u8], sack: &mut [u8]) -> Totals {
+fn replay_all(source: Source, window: &mut [u8], sack: &mut [u8]) -> Totals {
     let mut totals = Totals {
         kinds: none(),
         last: [0; 5],
-        feed: Feed::new(fd),
+        feed: Feed::new(source),
         goes_on: true,
     };
     for _ in 0..u64::MAX {
@@ -194,8 +194,8 @@ fn replay_all(fd: i32, window: &mut [u8], sack: &mut [u8]) -> Totals {
     totals
 }
 
-pub fn replay(fd: i32) -> Totals {
+pub fn replay(source: Source) -> Totals {
     let mut window = io::large_buffer();
     let mut sack = io::large_buffer();
-    replay_all(fd, &mut window, &mut sack)
+    replay_all(source, &mut window, &mut sack)
 }

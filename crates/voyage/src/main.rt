@@ -18,28 +18,32 @@ mod words;
 use book::Book;
 use report::text::front;
 use run::{add_all, print_run, print_totals};
+use std::env::{Env, FillError};
+use std::io::Result;
 
 // The seeded runs.
 const LAST_SEED: u64 = 240;
 
 // A run, and its line.
-fn run_of(book: &mut Book, name: &[u8], is_shown: bool) {
-    run::run(book, is_shown);
-    print_run(book, name);
+fn run_of(rt: &impl Print, book: &mut Book, name: &[u8], is_shown: bool) -> Result<()> {
+    run::run(rt, book, is_shown)?;
+    print_run(rt, book, name)
 }
 
 // The run of a seed, in the totals.
-fn seeded(totals: &mut Book, seed: u64) {
+fn seeded(rt: &impl Print, totals: &mut Book, seed: u64) -> Result<()> {
     let mut book = plan::of_seed(seed);
-    run_of(&mut book, b"seed # from #:", false);
+    run_of(rt, &mut book, b"seed # from #:", false)?;
     add_all(totals, &book);
+    Ok(())
 }
 
 // The seeded runs, in the totals.
-fn all(totals: &mut Book) {
+fn all(rt: &impl Print, totals: &mut Book) -> Result<()> {
     for seed in 1..LAST_SEED + 1 {
-        seeded(totals, seed);
+        seeded(rt, totals, seed)?;
     }
+    Ok(())
 }
 
 // One more digit of a number of up to nine digits; what is no digit changes nothing.
@@ -63,17 +67,26 @@ fn number(digits: &[u8]) -> u64 {
     n
 }
 
-fn main() {
-    if os::arg_count() > 1 {
-        let mut word = io::buffer();
-        let length = os::arg(1, &mut word);
-        let seed = number(front(&word, length));
-        let mut book = plan::of_seed(seed);
-        run_of(&mut book, b"seed # from #:", true);
-        return;
-    }
+// The run of a seed that is given in digits, step by step.
+fn shown(rt: &impl Print, digits: &[u8]) -> Result<()> {
+    let mut book = plan::of_seed(number(digits));
+    run_of(rt, &mut book, b"seed # from #:", true)
+}
+
+// The fixed steps, the seeded runs and the totals.
+fn whole(rt: &impl Print) -> Result<()> {
     let mut totals = script::plan();
-    run_of(&mut totals, b"fixed steps, seed # from #:", true);
-    all(&mut totals);
-    print_totals(&totals);
+    run_of(rt, &mut totals, b"fixed steps, seed # from #:", true)?;
+    all(rt, &mut totals)?;
+    print_totals(rt, &totals)
+}
+
+fn main(rt: HostRuntime) -> Result<()> {
+    let mut word = io::buffer();
+    match rt.arg(1, &mut word) {
+        Ok(length) => shown(&rt, front(&word, length)),
+        // Of an argument that does not fit nothing is taken.
+        Err(FillError::TooLong) => shown(&rt, b""),
+        Err(FillError::NotPresent) => whole(&rt),
+    }
 }

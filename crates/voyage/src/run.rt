@@ -12,6 +12,7 @@ use crate::words::{put_line, say};
 use recv::ReceiveBuffer;
 use report::text::{print, put_byte, put_next, put_number};
 use sent_lent::head::Head;
+use std::io::Result;
 
 // A fresh sender. The arrays of its tracker hold zeros.
 fn fresh_sender(book: &Book) -> Head {
@@ -31,10 +32,8 @@ fn is_done(sender: Head, receiver: ReceiveBuffer, book: &Book) -> bool {
 }
 
 // What a step told is printed where that is asked for.
-fn show(book: &Book, is_shown: bool) {
-    if is_shown {
-        say(book);
-    }
+fn show(rt: &impl Print, book: &Book, is_shown: bool) -> Result<()> {
+    if is_shown { say(rt, book) } else { Ok(()) }
 }
 
 // A run that has not ended by then is not finished.
@@ -43,6 +42,7 @@ const MOST_STEPS: u64 = 60000;
 // Steps until all is done, and answers whether it is. The channel, the receiver and the sender do their
 // parts of each.
 fn walk(
+    rt: &impl Print,
     first_sender: Head,
     first_receiver: ReceiveBuffer,
     samples: &mut [u64; 2048],
@@ -53,19 +53,19 @@ fn walk(
     buf: &mut [u8],
     memory: &mut Memory,
     is_shown: bool,
-) -> bool {
+) -> Result<bool> {
     let mut sender = first_sender;
     let mut receiver = first_receiver;
     for index in 0..MOST_STEPS {
         if is_done(sender, receiver, book) {
-            return true;
+            return Ok(true);
         }
         let step = begin(book, memory, index);
         receiver = receive(receiver, book, step, buf, memory);
         sender = send(sender, samples, times, sizes, marks, book, step, memory);
-        show(book, is_shown);
+        show(rt, book, is_shown)?;
     }
-    is_done(sender, receiver, book)
+    Ok(is_done(sender, receiver, book))
 }
 
 // Notes how a run ended. Every byte that was sent is to be read, in its place.
@@ -83,7 +83,7 @@ fn end(book: &mut Book, is_done: bool) {
 }
 
 // Makes the run that the book is set up for.
-pub(crate) fn run(book: &mut Book, is_shown: bool) {
+pub(crate) fn run(rt: &impl Print, book: &mut Book, is_shown: bool) -> Result<()> {
     let mut room = io::large_buffer();
     let mut memory = io::large_buffer();
     let mut samples: [u64; 2048] = [0; 2048];
@@ -92,6 +92,7 @@ pub(crate) fn run(book: &mut Book, is_shown: bool) {
     let mut marks: [u8; 2048] = [0; 2048];
     let length = (book[LENGTH] % 65537) as usize;
     let is_done = walk(
+        rt,
         fresh_sender(book),
         fresh_receiver(book, length),
         &mut samples,
@@ -102,8 +103,9 @@ pub(crate) fn run(book: &mut Book, is_shown: bool) {
         &mut room[..length],
         &mut memory,
         is_shown,
-    );
-    end(book, is_done)
+    )?;
+    end(book, is_done);
+    Ok(())
 }
 
 // Puts what was counted.
@@ -113,14 +115,14 @@ fn put_counts(room: &mut [u8], at: usize, book: &Book) -> usize {
 }
 
 // Prints the run's line, which begins with a text for its seed and its initial number.
-pub(crate) fn print_run(book: &Book, name: &[u8]) {
+pub(crate) fn print_run(rt: &impl Print, book: &Book, name: &[u8]) -> Result<()> {
     let verdicts = b", equal\n, NOT EQUAL\n, NOT FINISHED\n";
     let mut room = io::buffer();
     let used = put_line(&mut room, 0, name, 0, book, SEED);
     let used = put_counts(&mut room, used, book);
     let verdict = (book[VERDICT] % 3) as usize;
     let used = put_line(&mut room, used, verdicts, verdict, book, VERDICT);
-    print(&room, used);
+    print(rt, &room, used)
 }
 
 // Adds what a run counted to the totals.
@@ -150,7 +152,7 @@ fn put_refused(room: &mut [u8], at: usize, book: &Book) -> usize {
 
 // Prints the line of totals: how many runs, how many of them did not end with every byte in its place,
 // and all their counts.
-pub(crate) fn print_totals(totals: &Book) {
+pub(crate) fn print_totals(rt: &impl Print, totals: &Book) -> Result<()> {
     let mut room = io::buffer();
     let used = put_line(&mut room, 0, b"# runs:", 0, totals, RUNS);
     let used = put_counts(&mut room, used, totals);
@@ -164,5 +166,5 @@ pub(crate) fn print_totals(totals: &Book) {
         totals,
         DIFFER,
     );
-    print(&room, used);
+    print(rt, &room, used)
 }

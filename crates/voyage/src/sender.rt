@@ -184,7 +184,7 @@ fn lost_due(
 
 // What is due, at a time, with the tracker's head after that is found: one packet, by its number, or all
 // that are not acknowledged, of so many places.
-#[derive(Drop)]
+#[derive(Clone, Copy)]
 pub struct Due {
     pub head: Head,
     pub number: u64,

@@ -12,7 +12,7 @@ use packet::extension::Part;
 
 // What the channel does with a datagram: it takes it out and hands it over, by a clock that is so far
 // back; it hands it over and keeps it; it takes it out, and that is all.
-#[derive(Drop)]
+#[derive(Clone, Copy)]
 pub enum Way {
     Hand(u64),
     Repeat,
@@ -23,7 +23,7 @@ pub enum Way {
 // place of the channel to look from; room for the SACK; bytes to read; a position of the lost list.
 // When the channel has done its part, an ack is heard, with how far back the clock is, or another packet
 // arrives, both with the part of the memory that its datagram stands in, or nothing is left to do.
-#[derive(Drop)]
+#[derive(Clone, Copy)]
 pub enum Step {
     Send(u64, u64),
     Pass(Way, u64),

@@ -1,6 +1,7 @@
 // Texts with numbers in them, and what a step told as a line of words.
 use crate::book::{Book, FIRST, TOLD};
 use report::text::{print, put_byte, put_number};
+use std::io::Result;
 
 // What is told, by the line of words that it has in `say`. The first number is a packet's or an ack's,
 // or a count. The second is a size in bytes, or the number that is in order after it, or of a refusal
@@ -90,7 +91,7 @@ pub(crate) fn put_line(
 }
 
 // Prints what a step told.
-pub(crate) fn say(book: &Book) {
+pub(crate) fn say(rt: &impl Print, book: &Book) -> Result<()> {
     let mut room = io::buffer();
     let text = b"nothing\n\
         sent #, bytes #\n\
@@ -111,5 +112,5 @@ pub(crate) fn say(book: &Book) {
         built ack #, bytes of SACK #\n\
         ack not built, refused #\n";
     let used = put_line(&mut room, 0, text, (book[TOLD] % 32) as usize, book, FIRST);
-    print(&room, used);
+    print(rt, &room, used)
 }
