@@ -3,7 +3,7 @@
 # datagram; then the statuses and messages of the script ./inspect.
 set -eu
 here=$(cd "$(dirname "$0")/.." && pwd)
-(cd "$here/crates/inspect" && rt run < /dev/null) > /dev/null 2>&1
+said=$(cd "$here/crates/inspect" && rt run < /dev/null 2>&1) || { echo "$said"; exit 1; }
 . "$here/tests/machine.sh"
 inspect() { $run "$here/crates/inspect/out/inspect" "$@"; }
 sample=$here/crates/inspect/data/capture-sample.dgrams

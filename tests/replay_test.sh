@@ -3,7 +3,7 @@
 # then the statuses and messages of the script ./replay.
 set -eu
 here=$(cd "$(dirname "$0")/.." && pwd)
-(cd "$here/crates/replay" && rt run < /dev/null) > /dev/null 2>&1
+said=$(cd "$here/crates/replay" && rt run < /dev/null 2>&1) || { echo "$said"; exit 1; }
 . "$here/tests/machine.sh"
 python3 "$here/tests/replay.py" $run "$here/crates/replay/out/replay"
 room=$(mktemp -d)

@@ -8,6 +8,6 @@ if [ ! -f "$capture.dgrams" ] || [ ! -f "$capture.tshark.tsv" ]; then
     echo "tshark.sh: left out, there is no $capture.dgrams with its .tshark.tsv"
     exit 0
 fi
-(cd "$here/crates/inspect" && rt run < /dev/null) > /dev/null 2>&1
+said=$(cd "$here/crates/inspect" && rt run < /dev/null 2>&1) || { echo "$said"; exit 1; }
 . "$here/tests/machine.sh"
 $run "$here/crates/inspect/out/inspect" "$capture.dgrams" | python3 "$here/oracle/tshark.py" compare - "$capture.tshark.tsv" "$capture.dgrams"

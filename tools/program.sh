@@ -109,7 +109,10 @@ program() {
   fi
   # The program names files by text. One whose name is no UTF-8 is opened here, and handed on by its number.
   for word in "$@"; do
-    if ! printf %s "$word" | iconv -f UTF-8 -t UTF-8 > /dev/null 2>&1 && [ -r "$word" ]; then
+    if command -v iconv > /dev/null && ! printf %s "$word" | iconv -f UTF-8 -t UTF-8 > /dev/null 2>&1; then
+      if [ ! -e "$word" ]; then echo "$word: No such file or directory" >&2; exit 1; fi
+      if [ -d "$word" ]; then echo "$word: Is a directory" >&2; exit 1; fi
+      if [ ! -r "$word" ]; then echo "$word: Permission denied" >&2; exit 1; fi
       exec {fd}< "$word"
       word=/dev/fd/$fd
     fi
