@@ -47,14 +47,12 @@ impl Reason {
     }
 }
 
-// The version of the protocol, which a header has in the low four bits of its first byte.
-const VERSION: u8 = 1;
-
 impl Packet {
     // The size of a header in bytes.
     pub const HEADER_LEN: usize = 20;
 
     // Reads a datagram. Refuses with 1, 2, 3, 4, 5, 6, 7, checked in this order.
+    #[tactic(auto, using(crate::proofs::Version::of_version_one, crate::proofs::Version::of_other_version))]
     pub fn decode(datagram: &[u8]) -> Decoded
         ensures { decoded result ≡ decode_of datagram.now }
     {
@@ -67,7 +65,7 @@ impl Packet {
                 HeaderReason::UnknownType,
             )),
             TypeRead::Known(packet_type) => {
-                if first % 16 == VERSION {
+                if first % 16 == 1 {
                     decode_chain(datagram, read_header(datagram, packet_type))
                 } else {
                     Decoded::Undecoded(Reason::BadHeader(HeaderReason::UnknownVersion))
