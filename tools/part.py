@@ -8,7 +8,7 @@
 import re
 import sys
 
-from spelling import Context, lst, nth, par, prod, sub, theorem, tup, with_uses
+from spelling import Context, given_back, lst, nth, par, prod, sub, theorem, tup, with_uses
 
 fields, shape = sys.argv[1:3]
 req = sys.argv[3:] == ["R"]
@@ -261,12 +261,8 @@ cargs = tup([hv] + [lent(f, δs(f)) for f in Lf] + [a(i) for i in ix])
 fml = {"obs": f"fobs γ (Row.coded.code ({next_h}))", "bor": "fbor κ (Body (mem Row) b o γ)", "tok0": "flft κ q"}
 for i in refs:
     fml[f"tok{i}"], fml[f"own{i}"] = f"flft κ{sub(i)} q{sub(i)}", own(i)
-for i in M_:                                      # the last value, and the borrow, which goes back to the lender
-    lies = f"fbor κ{sub(i)} (Body ({{}}) {a(i)}.ref_ptr.0 {a(i)}.ref_ptr.1 {a(i)}.ghost_name)"
-    if kind[i] == "m":
-        fml[f"fin{i}"] = f"fsep (finally (row_of {A(i)}) {a(i)}.ghost_name {z(i)}) ({lies.format(f'Arr (Holey (mem (row_of {A(i)}))) (length {a(i)}.now)')})"
-    else:
-        fml[f"fin{i}"] = f"fsep (fres {a(i)}.ghost_name ((row_of {A(i)}).coded.code {z(i)})) ({lies.format(f'mem (row_of {A(i)})')})"
+for i in M_:
+    fml[f"fin{i}"] = given_back(i, A(i), a(i), z(i), kind[i] == "m")
 len_of = lambda i: f" {l(i)}" if kind[i] == "m" else ""
 for n, f in enumerate(Lf):
     fml[f"new{f}"] = f"flft ({νs(f)} ∷ []) full_share"

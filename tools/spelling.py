@@ -68,6 +68,15 @@ class Context:
         return re.sub(r" ?\n ?", "\n" + " " * pad, " ".join(self.t))
 
 
+def given_back(i, row, a, last, is_slice):
+    """Of parameter i, a `&mut` that was handed on: its last value, and the borrow, which goes back to the lender."""
+    if is_slice:
+        value, lies = f"finally (row_of {row}) {a}.ghost_name {last}", f"Arr (Holey (mem (row_of {row}))) (length {a}.now)"
+    else:
+        value, lies = f"fres {a}.ghost_name ((row_of {row}).coded.code {last})", f"mem (row_of {row})"
+    return f"fsep ({value}) (fbor κ{sub(i)} (Body ({lies}) {a}.ref_ptr.0 {a}.ref_ptr.1 {a}.ghost_name))"
+
+
 def theorem(model, spells, tells, enter, goes):
     """The end of a file: the function's code meets the contract, over any tables, and over those of its environment."""
     return f"""  walks : {model} (C : Calls 𝓤 𝓛.H) (Λ : Loops 𝓤 𝓛.H) → FmC 𝓤 𝓛.H 𝓛.laws C → Triple 𝓤 (C key) (Callee 𝓛) → Walks 𝓛 ended stayed (WpFn 𝓤 𝓛.H C Λ function) (clauses 𝓛)

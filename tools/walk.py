@@ -11,7 +11,7 @@
 import re
 import sys
 
-from spelling import Context, lst, nth, par, prod, sub, theorem, tup, with_uses
+from spelling import Context, given_back, lst, nth, par, prod, sub, theorem, tup, with_uses
 
 form, shape = sys.argv[1:3]
 shape = "" if shape == "0" else shape
@@ -249,12 +249,8 @@ class Cx(Context):
 
 fml = {f"tok{i}": f"flft κ{sub(i)} q{sub(i)}" for i in refs}
 fml.update({f"own{i}": own(i) for i in refs})
-for i in M_:                                      # the last value, and the borrow, which goes back to the lender
-    lies = f"fbor κ{sub(i)} (Body ({{}}) {a(i)}.ref_ptr.0 {a(i)}.ref_ptr.1 {a(i)}.ghost_name)"
-    if kind[i] == "m":
-        fml[f"fin{i}"] = f"fsep (finally (row_of {A(i)}) {a(i)}.ghost_name {z(i)}) ({lies.format(f'Arr (Holey (mem (row_of {A(i)}))) (length {a(i)}.now)')})"
-    else:
-        fml[f"fin{i}"] = f"fsep (fres {a(i)}.ghost_name ((row_of {A(i)}).coded.code {z(i)})) ({lies.format(f'mem (row_of {A(i)})')})"
+for i in M_:
+    fml[f"fin{i}"] = given_back(i, A(i), a(i), z(i), kind[i] == "m")
 len_of = lambda i: f" {l(i)}" if kind[i] == "m" else ""
 new = {"Mut": "(O.st r)", "Set": "r", "New": "r", "Ref": "h"}[form]
 fml.update({"obs": f"fobs γ ((state_row S).coded.code {new})", "bor": "fbor κ (Body (mem (state_row S)) b o γ)", "shr": "hidden_shr (state_row S) κ h b o", "tok0": "flft κ q"})
