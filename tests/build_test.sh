@@ -17,7 +17,7 @@ case \$1 in
     touch "$room/running"
     echo 'rt: chose --jobs 2 for seq' >&2
     echo 'logic=proved functions=6' >&2
-    sleep 2
+    sleep 6
     echo 'rt: chose --jobs 4 for packet' >&2
     echo 'logic=proved functions=43' >&2
     rm "$room/running"

@@ -1,5 +1,5 @@
 #!/usr/bin/env bash
-# The walks of the exported functions, the proofs by them and the promises are what tools/exports.py writes.
+# The promises of the exported functions and the walks are what tools/exports.py writes.
 set -euo pipefail
 cd "$(dirname "$0")/.."
 . tests/toolchain.sh
@@ -10,7 +10,7 @@ for part in ribsaddle/src ribsaddle/specs ribsaddle/proofs walks/src walks/specs
   cp -a "crates/$part/." "$copy/crates/$part/"
 done
 cp -a tools "$copy/"
-printf 'walks:\nribsaddle staticlib: walks\n' > "$copy/crates.txt"
+printf 'walks:\nribsaddle staticlib:\n' > "$copy/crates.txt"
 cd "$copy"
 python3 tools/exports.py
 for crate in walks ribsaddle; do (cd "crates/$crate" && rt fmt > /dev/null); done

@@ -1,5 +1,4 @@
--- Laws of floats and of signed numbers that the proofs of the functions cite, and what is shown of every public function.
+-- Laws of floats that the proofs of the functions cite, and what is shown of every public function.
 mod Ends
-mod Signed
 mod Negated
 pub mod Promises

@@ -1,5 +1,5 @@
-// The controller's numbers: the settings that are used later, and what an acknowledgement, a loss and
-// a timeout move. A forged value is handed back as it came.
+// The controller's numbers: the settings that are used later, and what an acknowledgement, a loss
+// and a timeout move. A forged value is handed back as it came.
 ghost use Rattle.std.specs.Prelude.{◌≡◌, ◌-◌, ◌/◌, ◌^◌, ◌≤◌, true};
 ghost use Rattle.congestion.specs.Numbers.{minimum_of, free_of, sound_of, new_of, accepted_of, transmitted_of, adjusted_of, landed_of, timed_of, acked_of, lost_of, timed_out_of, when_sound};
 
@@ -8,7 +8,7 @@ use crate::{trip, window};
 
 // Times are whole microseconds, sizes bytes.
 #[repr(C)]
-#[derive(Clone, Copy)]
+#[derive(Clone, Copy, Default)]
 pub struct Numbers {
     pub target: u32,
     pub largest_packet: u32,
@@ -24,20 +24,6 @@ pub struct Numbers {
     pub last: u64,
 }
 
-// a - b, or 0.
-fn less(a: u32, b: u32) -> u32
-    ensures { result ≡ a - b }
-{
-    if a <= b { 0 } else { a - b }
-}
-
-// Half of a maximum, rounding down.
-fn halved(maximum: u32) -> u32
-    ensures { result ≡ maximum / 2 }
-{
-    maximum / 2
-}
-
 impl Numbers {
     // The largest maximum window, and where delays are held: 2^32 - 1.
     pub const LARGEST_MAXIMUM: u32 = 0xffff_ffff;
@@ -45,43 +31,28 @@ impl Numbers {
     pub const LONGEST_TIMEOUT: u64 = 0x20_0000_0000_0000;
 
     // The numbers that a session starts with. Settings out of range give all zeros, which are not
-    // sound.
+    // sound. (No Option: `new_of` gives them, and a function that could not fail still can't.)
     pub fn new(settings: Settings) -> Numbers
         ensures { result ≡ new_of settings }
     {
         if !settings.in_range() {
-            return Numbers {
-                target: 0,
-                largest_packet: 0,
-                increase: 0,
-                maximum: 0,
-                in_flight: 0,
-                minimum_timeout: 0,
-                delay_window: 0,
-                gain: 0.0,
-                trip: 0,
-                variance: 0,
-                timeout: 0,
-                last: 0,
-            };
+            return Numbers::default();
         }
         Numbers {
             target: settings.target_delay as u32,
             largest_packet: settings.largest_packet as u32,
             increase: settings.increase as u32,
             maximum: (2 * settings.largest_packet) as u32,
-            in_flight: 0,
             minimum_timeout: settings.minimum_timeout,
             delay_window: settings.delay_window,
             gain: settings.gain,
-            trip: 0,
-            variance: 0,
             timeout: settings.first_timeout,
-            last: 0,
+            ..Numbers::default()
         }
     }
 
     // Does it pass the soundness test?
+    #[tactic(auto, unfolding(crate::specs::Numbers::sound_of))]
     pub fn sound(self) -> bool
         ensures { result ≡ sound_of self }
     {
@@ -110,20 +81,17 @@ impl Numbers {
     pub fn free_window(self) -> u32
         ensures { result ≡ free_of self }
     {
-        if self.maximum <= self.in_flight {
-            0
-        } else {
-            self.maximum - self.in_flight
-        }
+        self.maximum.saturating_sub(self.in_flight)
     }
 
     // With `clock` as the last accepted now.
     pub fn accepted(self, clock: u64) -> Numbers
         ensures { result ≡ accepted_of self clock }
     {
-        let mut next = self;
-        next.last = clock;
-        next
+        Numbers {
+            last: clock,
+            ..self
+        }
     }
 
     // A first transmit of `len` bytes: in flight grows. One that the free window does not hold
@@ -134,9 +102,10 @@ impl Numbers {
         if self.free_window() < len {
             return self;
         }
-        let mut next = self;
-        next.in_flight = self.in_flight + len;
-        next
+        Numbers {
+            in_flight: self.in_flight + len,
+            ..self
+        }
     }
 
     // The maximum moved by the window rule with in flight still holding the packet, then in flight
@@ -145,40 +114,33 @@ impl Numbers {
         requires { sound_of self ≡ true }
         ensures { result ≡ landed_of (adjusted_of self base delay len) len }
     {
-        let flying = self.in_flight;
-        let left = less(self.in_flight, len);
-        let step = window::adjustment(
-            self.gain,
-            self.increase,
-            self.target,
-            delay,
-            base,
-            len,
-            flying,
-        );
-        let minimum = 2 * self.largest_packet;
-        let mut next = self;
-        next.maximum = window::next_maximum(minimum, self.increase, self.maximum, step);
-        next.in_flight = left;
-        next
+        let left = self.in_flight.saturating_sub(len);
+        let step = window::adjustment(self, base, delay, len);
+        Numbers {
+            maximum: window::next_maximum(self, step),
+            in_flight: left,
+            ..self
+        }
     }
 
-    // Round trip, variance and timeout moved by one packet's round trip, both by the old round trip.
+    // Round trip, variance and timeout moved by one packet's round trip, both by the old one.
     fn timed(self, trip: u64) -> Numbers
         requires { (sound_of self ≡ true) × (trip ≤ 2 ^ 50) }
         ensures { result ≡ timed_of self trip }
     {
         let moved = trip::next_trip(self.trip, trip);
         let variance = trip::next_variance(self.trip, self.variance, trip);
-        let mut next = self;
-        next.trip = moved;
-        next.variance = variance;
-        next.timeout = trip::larger(moved + 4 * variance, self.minimum_timeout);
-        next
+        Numbers {
+            trip: moved,
+            variance,
+            timeout: (moved + 4 * variance).max(self.minimum_timeout),
+            ..self
+        }
     }
 
     // A newly acknowledged packet of `len` bytes: window, in flight, and if it was sent once its
     // round trip of `trip`. Numbers that are not sound, or a round trip above 2^50, change nothing.
+    // (No Option of a trip: `acked_of` refuses one above 2^50 of a packet that was sent twice too.)
     pub fn acked(self, base: u64, delay: u64, len: u32, once: bool, trip: u64) -> Numbers
         ensures { result ≡ acked_of self base delay len once trip }
     {
@@ -196,21 +158,17 @@ impl Numbers {
     }
 
     // A new loss: the maximum is halved, rounding down, not below the minimum.
+    // (The test that begins `acked`, `lost` and `timed_out` is three lines; a closure is no fewer.)
     pub fn lost(self) -> Numbers
         ensures { result ≡ when_sound self (lost_of self) }
     {
         if !self.sound() {
             return self;
         }
-        let minimum = 2 * self.largest_packet;
-        let half = halved(self.maximum);
-        let mut next = self;
-        if half <= minimum {
-            next.maximum = minimum;
-        } else {
-            next.maximum = half;
+        Numbers {
+            maximum: (self.maximum / 2).max(2 * self.largest_packet),
+            ..self
         }
-        next
     }
 
     // A timeout event: the maximum falls to the minimum, and the timeout is doubled, held at 2^53.
@@ -220,13 +178,10 @@ impl Numbers {
         if !self.sound() {
             return self;
         }
-        let mut next = self;
-        next.maximum = 2 * self.largest_packet;
-        if 2 * self.timeout <= Numbers::LONGEST_TIMEOUT {
-            next.timeout = 2 * self.timeout;
-        } else {
-            next.timeout = Numbers::LONGEST_TIMEOUT;
+        Numbers {
+            maximum: 2 * self.largest_packet,
+            timeout: (2 * self.timeout).min(Numbers::LONGEST_TIMEOUT),
+            ..self
         }
-        next
     }
 }

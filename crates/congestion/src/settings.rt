@@ -2,8 +2,8 @@
 ghost use Rattle.std.specs.Prelude.{◌≡◌};
 ghost use Rattle.congestion.specs.Settings.{in_range_of, gain_in_range_of};
 
-// Times are whole microseconds, sizes bytes. Each field is wide, so that a value out of range can be
-// given and is refused here.
+// Times are whole microseconds, sizes bytes. Each field is wide, so that a value out of range can
+// be given and is refused here.
 #[repr(C)]
 #[derive(Clone, Copy)]
 pub struct Settings {

@@ -1,4 +1,13 @@
 -- Every public function of the crate, in the order of the source: nothing is asked of its caller, and no two different outcomes satisfy its promise.
+use mathlib.Core.List.{Mem}
+use Prim.Native.Nat.{ℕ}
+use Rattle.std.proofs.Common.{sym, ap, ◌∙◌}
+use denote.RattleType.{RattleType}
+use denote.Param.Laws.{Laws}
+use mir.Syntax.{Dict}
+use Rattle.controller.specs.declared.delays.Delays.{Delays}
+use Rattle.controller.specs.declared.samples.Samples.{Ghosts}
+use Rattle.controller.specs.Delays.{delays_of, list_of, taken_of, base_of, delays_sound_of}
 use Rattle.common.specs.Promise.{Promise, by_value, by_code}
 use Rattle.controller.specs.Answers.{outcome}
 use Rattle.controller.specs.Laws.OneToOne.{outcome_one_to_one}
@@ -9,6 +18,9 @@ use Rattle.controller.proofs.delays.Delays.none.Reads as delays-none
 use Rattle.controller.proofs.delays.Delays.base.Reads as delays-base
 use Rattle.controller.proofs.delays.Delays.sound.Reads as delays_sound
 use Rattle.controller.proofs.delays.Delays.take.Reads as delays-take
+use Rattle.controller.proofs.samples.sound.Reads as samples-sound
+use Rattle.controller.proofs.samples.base_with.Reads as samples-base-with
+use Rattle.controller.proofs.samples.take.Reads as samples-take
 use Rattle.controller.proofs.state.Controller.new.Reads as controller-new
 use Rattle.controller.proofs.state.Controller.sound.Reads as controller-sound
 use Rattle.controller.proofs.state.Controller.on_transmit.Reads as controller-on-transmit
@@ -40,6 +52,35 @@ delays_sound_promise = by_value _ (λ κs a. tt) (λ κs a r s p. p)
 
 delays_take_promise : Promise delays-take.Pre delays-take.Post (λ κs r s. r)
 delays_take_promise = by_value _ (λ κs a. tt) (λ κs a r s p. p)
+
+-- At each type of place that holds no reference. What is seen of a place that is lent to be written is all of it.
+module _ (T : RattleType) (L : Laws T) (S : Ghosts T.Denot) (d : Dict) (plain : (k : ℕ) → Mem k T.lives → ⊥) where
+  samples_sound_promise : Promise (samples-sound.Pre T L S d) (samples-sound.Post T L S d) (λ κs r s. r)
+  samples_sound_promise =
+      by_value
+      {pre = samples-sound.Pre T L S d}
+      {post = samples-sound.Post T L S d}
+      (λ κs a. delays_sound_of a.1.1.0 (delays_of (S.samples a.0.now) a.1.0))
+      (λ κs a k m. absurd (plain k m))
+      (λ κs a r s p. p.0)
+
+  samples_base_with_promise : Promise (samples-base-with.Pre T L S d) (samples-base-with.Post T L S d) (λ κs r s. r)
+  samples_base_with_promise =
+      by_value
+      {pre = samples-base-with.Pre T L S d}
+      {post = samples-base-with.Post T L S d}
+      (λ κs a. base_of (list_of (taken_of (delays_of (S.samples a.0.now) a.1.0) a.1.1.0.delay a.1.1.0.at a.1.1.1.0)))
+      (λ κs a k m. absurd (plain k m))
+      (λ κs a r s p. p)
+
+  samples_take_promise : Promise {W = Delays × T.Denot} (samples-take.Pre T L S d) (samples-take.Post T L S d) (λ κs r s. (delays_of (S.samples s.0.now) r, s.0.now))
+  samples_take_promise =
+      by_value
+      {pre = samples-take.Pre T L S d}
+      {post = samples-take.Post T L S d}
+      (λ κs a. let taken = taken_of (delays_of (S.samples a.0.now) a.1.0) a.1.1.0.delay a.1.1.0.at a.1.1.1.0 in (taken, S.of_samples taken.kept))
+      (λ κs a k m. absurd (plain k m))
+      (λ κs a r s p. λ i. (p.0 i, (sym p.1 ∙ ap (λ (x : Delays). S.of_samples x.kept) p.0) i))
 
 controller_new_promise : Promise controller-new.Pre controller-new.Post (λ κs r s. r)
 controller_new_promise = by_code outcome outcome_one_to_one _ (λ κs a. tt) (λ κs a r s p. p)

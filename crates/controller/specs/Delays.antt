@@ -55,6 +55,10 @@ base_of (s ∷ l) = s.delay
 
 -- ---- in the state
 
+-- Samples that lie in order, of which so many are kept.
+abbrev pub delays_of : List Sample → ℕ → Delays
+delays_of kept count = record { kept = kept; count = count }
+
 -- The list stands at the front of the array.
 abbrev pub list_of : Delays → List Sample
 list_of d = take d.count d.kept

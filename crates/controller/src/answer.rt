@@ -5,33 +5,28 @@ ghost use Rattle.controller.specs.Answers.{reason_number};
 // Why a call is refused, each with its number.
 #[derive(Clone, Copy)]
 pub enum Reason {
-    // 10: a setting is out of range.
-    BadSetting,
-    // 11: a time or a delay is above 2^50, or now is below an accepted one.
-    BadTime,
-    // 12: no packet of that length is in flight.
-    NotSent,
-    // 13: a first transmit is longer than the free window.
-    NoWindow,
-    // 19: the state is not sound.
-    NotSound,
+    // A setting is out of range.
+    BadSetting = 10,
+    // A time or a delay is above 2^50, or now is below an accepted one.
+    BadTime = 11,
+    // No packet of that length is in flight.
+    NotSent = 12,
+    // A first transmit is longer than the free window.
+    NoWindow = 13,
+    // The state is not sound.
+    NotSound = 19,
 }
 
 impl Reason {
-    // The number of the refusal.
+    // The number of the refusal. A method and no `From`: docs/PROMISES.md promises `number`.
     pub fn number(self) -> u32
         ensures { result ≡ reason_number self }
     {
-        match self {
-            Reason::BadSetting => 10,
-            Reason::BadTime => 11,
-            Reason::NotSent => 12,
-            Reason::NoWindow => 13,
-            Reason::NotSound => 19,
-        }
+        self as u32
     }
 }
 
+// An enum of the port's own in place of Result: document 01, "What must change shape".
 #[derive(Clone, Copy)]
 pub enum Answer {
     // 0: done.

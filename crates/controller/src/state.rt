@@ -1,5 +1,5 @@
-// The congestion controller: one value, handed in and handed back. A forged one is refused with 19 and
-// comes back as it was. The packets themselves are kept by the tracker.
+// The congestion controller: one value, handed in and handed back. A forged one is refused with 19
+// and comes back as it was. The packets themselves are kept by the tracker.
 ghost use Rattle.std.specs.Prelude.{◌≡◌, true, ◌≤◌, ◌^◌};
 ghost use Rattle.congestion.specs.Numbers.{free_of, sound_of};
 ghost use Rattle.controller.specs.Answers.{reason_number, outcome};
@@ -17,7 +17,7 @@ pub struct Controller {
     pub delays: Delays,
 }
 
-// The answer, beside the controller.
+// The answer beside the controller: document 01, the functions "hand the state back".
 #[derive(Clone, Copy)]
 pub struct Outcome {
     pub answer: Answer,
@@ -33,6 +33,7 @@ pub enum Transmit {
 
 // What the controller asks of a newly acknowledged packet: its first length, whether it was sent
 // once, and when it was first sent.
+// (`at` is no Option where it was sent twice: 11 is tested of such a packet, too.)
 #[derive(Clone, Copy)]
 pub struct Packet {
     pub length: u32,
@@ -60,6 +61,7 @@ impl Controller {
     pub const LARGEST_MAXIMUM: u32 = Numbers::LARGEST_MAXIMUM;
 
     // A controller at its start. Refused: 10, with a controller that is not sound.
+    // (Like the tracker's `Head::new`, of another type: a trait of both would be longer.)
     pub fn new(settings: Settings) -> Outcome
         ensures { outcome result ≡ controller_of settings }
     {
@@ -145,8 +147,8 @@ impl Controller {
         done(credited.accepted(clock), taken)
     }
 
-    // A newly acknowledged packet. Refused: 19; 11, also for a delay above 2^50 and a packet sent after
-    // `clock`; 12 where less than its length is in flight.
+    // A newly acknowledged packet. Refused: 19; 11, also for a delay above 2^50 and a packet sent
+    // after `clock`; 12 where less than its length is in flight.
     pub fn on_ack(self, packet: Packet, delay: u64, clock: u64) -> Outcome
         ensures { outcome result ≡ on_ack_of self packet delay clock }
     {
@@ -163,6 +165,7 @@ impl Controller {
     }
 
     // A new loss. Refused: 19.
+    // (`on_timeout` is alike but for one call; a closure behind the guard would be longer.)
     pub fn on_loss(self) -> Outcome
         ensures { outcome result ≡ on_loss_of self }
     {

@@ -13,9 +13,8 @@ use Rattle.sent.specs.State.{tracker_of, transmit_answer, ack_answer, timeout_an
 use Rattle.outgoing.specs.declared.kept.Packet.{Packet}
 use Rattle.recv.specs.declared.ReceiveBuffer.{ReceiveBuffer}
 use Rattle.recv.specs.declared.Creation.TheVariants.{Made}
-use Rattle.recv.specs.declared.Count.TheVariants.{Is as is-count}
-use Rattle.recv.specs.declared.Number.TheVariants.{Is as is_number}
-use Rattle.recv.specs.State.{created_of, numbered_of, ack_of}
+use Rattle.recv.specs.declared.Told.TheVariants.{Is}
+use Rattle.recv.specs.State.{created_of, told_of, ack_of}
 use Rattle.recv.specs.Calls.{receiver_of, acked_of, acked_room_of}
 use Rattle.recv.specs.Runs as Recv
 
@@ -146,9 +145,9 @@ pub record FirstSent (d : Datagram) (run : List Event) : Type 0 where
 
 -- The receiver's calls on this state and this room answer this number and these bytes.
 pub record Answers (s : ReceiveBuffer) (room : List ℕ) (a : Acknowledgement) : Type 0 where
-  pub number_told : numbered_of s (ack_of s) ≡ is_number a.number
+  pub number_told : told_of s (ack_of s) ≡ Is a.number
   pub size : ℕ
-  pub size_told : acked_of s (length room) ≡ is-count size
+  pub size_told : acked_of s (length room) ≡ Is size
   pub bytes_told : take size (acked_room_of s room) ≡ a.mask
 
 -- This acknowledgement was built, number and SACK at one moment.

@@ -1,181 +1,82 @@
-// Shows the datagrams of a flat file, one to a line: of standard input, or of the file that the first
-// argument names. Each is a 2-byte big-endian length and then that many bytes. Bytes left over that
-// make no whole datagram give a last line `cut`.
+// Shows the datagrams of a flat file, one to a line: of standard input, or of the file that the
+// first argument names. Each is a 2-byte big-endian length and then that many bytes. Bytes left
+// over that make no whole datagram give a last line `cut`.
 
 #![tactic(auto)]
 
-use feed::{Feed, Source};
-use lines::datagram::{LONGEST, put_line};
-use report::failure::fail;
-use report::text::{front, print, put_bytes};
-use std::env::{Env, FillError};
-use std::fs;
-use std::fs::File;
-use std::io::{Error, ErrorKind};
+use feed::Feed;
+use lines::datagram::Line;
+use report::failure::failed;
+use report::input::{LONGEST_PATH, path};
+use std::io::{BufRead, BufReader, BufWriter, Read, Result, Write};
 use std::process::ExitCode;
-use std::rt::Files;
-use std::str::from_utf8;
+use std::{fs, io};
 
-// Where the work stands: the reading, how many bytes of text are not written out yet, whether to go on,
-// and whether what was to be written out was.
-#[derive(Drop)]
-struct Stand {
-    feed: Feed,
-    used: usize,
-    goes_on: bool,
-    is_written: bool,
-}
+// How much is read, and how much is written, at a time.
+const ROOM: usize = 65536;
 
-// Writes the text out, and answers whether it was all written.
-fn flush(rt: &(impl Print + Eprint), room: &[u8], used: usize) -> bool {
-    match print(rt, room, used) {
-        Ok(()) => true,
-        Err(error) => {
-            fail(rt, "write", &error);
-            false
-        }
-    }
-}
-
-// Makes room for one line more, where there is too little.
-fn with_room(rt: &(impl Print + Eprint), stand: Stand, room: &[u8]) -> Stand {
-    if stand.used <= room.len() && LONGEST <= room.len() - stand.used {
-        return stand;
-    }
-    let is_written = flush(rt, room, stand.used);
-    Stand {
-        feed: stand.feed,
-        used: 0,
-        goes_on: is_written,
-        is_written,
-    }
-}
-
-// Takes one datagram and puts its line behind the others.
-fn inspect_one(
-    stand: Stand,
-    index: u64,
-    window: &mut [u8],
-    datagram: &mut [u8],
-    room: &mut [u8],
-) -> Stand {
-    let length = stand.feed.number(window, 2);
-    let size = (length.value % 65536) as usize;
-    let feed = length.feed.bytes(window, datagram, size);
-    if feed.short {
-        return Stand {
-            feed,
-            used: put_bytes(room, stand.used, b"cut\n"),
-            goes_on: false,
-            is_written: true,
-        };
-    }
-    Stand {
-        feed,
-        used: put_line(room, stand.used, index, front(datagram, size)),
-        goes_on: true,
-        is_written: true,
-    }
-}
-
-// One turn: the next datagram, if there is one.
-fn inspect_next(
-    rt: &(impl Print + Eprint),
-    stand: Stand,
-    index: u64,
-    window: &mut [u8],
-    datagram: &mut [u8],
-    room: &mut [u8],
-) -> Stand {
-    let feed = stand.feed.filled(window);
-    if !feed.has_more() {
-        return Stand {
-            feed,
-            used: stand.used,
-            goes_on: false,
-            is_written: true,
-        };
-    }
-    let ready = with_room(
-        rt,
-        Stand {
-            feed,
-            used: stand.used,
-            goes_on: true,
-            is_written: true,
-        },
-        room,
-    );
-    if ready.goes_on {
-        inspect_one(ready, index, window, datagram, room)
-    } else {
-        ready
-    }
-}
-
-// Takes datagram after datagram. A proved loop has to end, and nothing says that a file does: it ends
-// at an index that no run reaches.
-fn inspect_all(
-    rt: &(impl Print + Eprint),
-    source: Source,
-    window: &mut [u8],
-    datagram: &mut [u8],
-    room: &mut [u8],
-) -> Stand {
-    let mut stand = Stand {
-        feed: Feed::new(source),
-        used: 0,
-        goes_on: true,
-        is_written: true,
-    };
+// Takes datagram after datagram, and writes the line of each. A proved loop has to end, and nothing
+// says that a file does: it ends at an index that no run reaches.
+fn inspect_all<R: BufRead + Drop>(feed: &mut Feed<R>, out: &mut impl Write) -> Result<()> {
+    let mut room = [0; 65536];
     for index in 0..u64::MAX {
-        stand = inspect_next(rt, stand, index, window, datagram, room);
-        if !stand.goes_on {
-            return stand;
+        if !feed.has_more() {
+            break;
         }
+        let size = (feed.number(2) & 0xffff) as usize;
+        feed.bytes(&mut room[..size]);
+        if feed.is_short {
+            writeln!(out, "cut")?;
+            break;
+        }
+        let line = Line {
+            index,
+            datagram: &room[..size],
+        };
+        writeln!(out, "{line}")?;
     }
-    stand
+    out.flush()
 }
 
-// Says what failed and why. The status is 1.
-fn failed(rt: &impl Eprint, what: &str, error: &Error) -> ExitCode {
-    fail(rt, what, error);
-    ExitCode::FAILURE
-}
-
-// Inspects what is read, and answers the status.
-fn inspect(rt: &(impl Print + Eprint), source: Source, name: &str) -> ExitCode {
-    let mut window = io::large_buffer();
-    let mut datagram = io::large_buffer();
-    let mut room = io::large_buffer();
-    let stand = inspect_all(rt, source, &mut window, &mut datagram, &mut room);
-    let is_written = flush(rt, &room, stand.used) & stand.is_written;
-    match stand.feed.failed {
-        Some(error) => failed(rt, name, &error),
-        None if is_written => ExitCode::SUCCESS,
-        None => ExitCode::FAILURE,
+// Inspects what is read, and answers the status. Fails where there is no memory for it.
+fn inspect(
+    rt: &(impl Print + Eprint + AllocGlobal),
+    source: impl Read + Drop,
+    name: &str,
+) -> Result<ExitCode> {
+    let mut feed = Feed::new(BufReader::with_capacity(rt.alloc(), ROOM, source)?);
+    let mut out = BufWriter::with_capacity(rt.alloc(), ROOM, io::writer(rt))?;
+    let written = inspect_all(&mut feed, &mut out);
+    // What a failure left unwritten is dropped here, and not tried again.
+    let _ = out.into_parts();
+    let mut status = ExitCode::SUCCESS;
+    if let Err(error) = written {
+        status = failed(rt, "write", &error);
     }
+    if let Some(error) = feed.failed() {
+        status = failed(rt, name, &error);
+    }
+    Ok(status)
 }
 
-// Inspects the file of a name.
-fn inspect_file(rt: &(impl Print + Eprint + Files<File = File>), name: &str) -> ExitCode {
-    match fs::open(rt, name) {
-        Ok(file) => inspect(rt, Source::Opened(file), name),
+// Inspects what the source gives, and says what failed. Like replay's `replay_from`: one function
+// for both would ask of its callers that it may call what they hand in.
+fn inspect_from(
+    rt: &(impl Print + Eprint + AllocGlobal),
+    source: Result<impl Read + Drop>,
+    name: &str,
+) -> ExitCode {
+    match source.and_then(|source| inspect(rt, source, name)) {
+        Ok(status) => status,
         Err(error) => failed(rt, name, &error),
     }
 }
 
-// The system's number of the error that a name is too long.
-const NAME_TOO_LONG: i32 = 36;
-
 fn main(rt: HostRuntime) -> ExitCode {
-    let mut path = io::buffer();
-    match rt.arg(1, &mut path) {
-        Ok(length) => match from_utf8(&path[..length]) {
-            Ok(name) => inspect_file(&rt, name),
-            Err(_) => failed(&rt, "path", &Error::from(ErrorKind::InvalidFilename)),
-        },
-        Err(FillError::TooLong) => failed(&rt, "path", &Error::from_raw_os_error(NAME_TOO_LONG)),
-        Err(FillError::NotPresent) => inspect(&rt, Source::Input(rt.stdin()), "standard input"),
+    let mut room = [0; LONGEST_PATH];
+    match path(&rt, &mut room) {
+        Ok(Some(name)) => inspect_from(&rt, fs::open(&rt, name), name),
+        Ok(None) => inspect_from(&rt, Ok(rt.stdin()), "standard input"),
+        Err(error) => failed(&rt, "path", &error),
     }
 }

@@ -1,147 +1,99 @@
-// A list of records that is held whole: its numbers and bytes by their places. Numbers in a list are
-// big-endian. What is past the end of a list reads as 0, so a record that is cut must be told by its
-// length.
+// A list of records that is held whole: its numbers and bytes by their places. Numbers in a list
+// are big-endian. What is past the end of a list reads as 0, so a record that is cut must be told
+// by its length.
 
 #![tactic(auto)]
-
-ghost use Rattle.std.specs.Prelude.{◌≡◌, ◌≤◌, length};
 
 use feed::appended;
 use report::failure::fail;
 use report::text::front;
 use std::fs;
-use std::io::Read;
+use std::io::{Error, Read};
 use std::rt::Files;
 
 // One byte more than the longest list that is held.
 const ROOM: usize = 1048576;
 
-// Room for a list. The `ensures` gives the length alone, which lending it needs.
-pub fn room() -> [u8; ROOM]
-    ensures { 1048576 ≡ length result }
-{
-    [0; ROOM]
-}
-
-// Reads a list to the front of the room, and answers its length. Says so of one that cannot be opened,
-// and of one that does not fit, of which nothing is held then.
-pub fn read(rt: &(impl Files + Eprint), name: &str, room: &mut [u8]) -> usize {
-    let mut file = match fs::open(rt, name) {
-        Ok(file) => file,
-        Err(error) => {
-            fail(rt, name, &error);
-            return 0;
-        }
-    };
-    let size = read_full(&mut file, room);
-    if size == room.len() {
-        say_larger(rt, name);
-        return 0;
+// Reads a list. Says so of one that cannot be opened, for which there is no memory, or that is
+// longer than is held; it is empty then. Where a read fails, the list ends.
+pub fn read(rt: &(impl Files + Eprint + AllocGlobal), name: &str) -> Vec<u8> {
+    let mut list = Vec::new(rt.alloc());
+    if let Err(error) = list.reserve(ROOM) {
+        fail(rt, name, &Error::from(error));
+        return list;
     }
-    size
-}
-
-// Reads until the room is full, the list ends or a read fails, and answers how many bytes it put at the
-// front of the room.
-fn read_full(file: &mut impl Read, room: &mut [u8]) -> usize
-    ensures { result ≤ length room.old }
-{
-    let mut done = 0;
-    while done < room.len() {
-        match file.read(&mut room[done..]) {
-            Ok(0) => return done,
-            Ok(count) => done += count,
-            Err(_) => return done,
+    match fs::open(rt, name) {
+        Ok(file) => {
+            let _ = file.take(ROOM as u64).read_to_end(&mut list);
         }
+        Err(error) => fail(rt, name, &error),
     }
-    done
-}
-
-fn say_larger(rt: &impl Eprint, name: &str) {
-    let _ = eprintln!(rt; "{name}: larger than 1048575 bytes, which is the most of a list");
+    if list.len() == ROOM {
+        let _ = eprintln!(rt; "{name}: larger than 1048575 bytes, which is the most of a list");
+        list.clear();
+    }
+    list
 }
 
 // What stands from a place on.
 pub fn behind(list: &[u8], at: usize) -> &[u8] {
-    if at <= list.len() {
-        &list[at..]
-    } else {
-        &list[..0]
-    }
+    &list[at.min(list.len())..]
 }
 
 fn byte(list: &[u8], at: usize) -> u8 {
-    if at < list.len() { list[at] } else { 0 }
+    list.get(at).copied().unwrap_or(0)
 }
 
 // The number of so many bytes at a place; of more than eight the last eight count.
+// (Not `Feed::number`: this reads past the end, as 0, and takes nothing. Its widths are a list's.)
 pub fn number(list: &[u8], at: usize, width: usize) -> u64 {
-    let mut value = 0;
-    for i in 0..width {
-        value = appended(value, byte(list, std::num::wrapping_add_usize(at, i)));
-    }
-    value
+    (0..width).fold(
+        0,
+        |value, i| appended(value, byte(list, at.wrapping_add(i))),
+    )
 }
 
-// Is this the number of so many bytes at a place?
-pub fn tells(list: &[u8], at: usize, width: usize, value: u64) -> bool {
-    number(list, at, width) == value
-}
-
+// (`two` and `four` say a width and the type that goes with it in one word.)
 // The number of two bytes at a place.
 pub fn two(list: &[u8], at: usize) -> u16 {
-    (number(list, at, 2) % 65536) as u16
+    (number(list, at, 2) & 0xffff) as u16
 }
 
 // The number of four bytes at a place.
 pub fn four(list: &[u8], at: usize) -> u32 {
-    (number(list, at, 4) % 4294967296) as u32
+    (number(list, at, 4) & 0xffff_ffff) as u32
 }
 
 // A part of a record: a 2-byte length and that many bytes.
 pub fn part(record: &[u8]) -> &[u8] {
-    front(behind(record, 2), two(record, 0) as usize)
+    front(behind(record, 2), usize::from(two(record, 0)))
 }
 
 // What stands behind such a part.
 pub fn behind_part(record: &[u8]) -> &[u8] {
-    behind(record, 2 + two(record, 0) as usize)
+    behind(record, 2 + usize::from(two(record, 0)))
 }
 
-// What stands in a byte of lent room before the call, so that every byte that must stay as it was can
-// be told.
+// What stands in a byte of lent room before the call, so that every byte that must stay as it was
+// can be told.
 fn pattern(at: usize) -> u8 {
     (at % 251) as u8
 }
 
 // Fills lent room with the pattern.
+// (recv_run and voyage fill theirs so, too: three lines, each by another byte.)
 pub fn fill(room: &mut [u8]) {
-    let mut i = 0;
-    while i < room.len() {
-        room[i] = pattern(i);
-        i += 1;
-    }
-}
-
-fn expected(told: &[u8], at: usize) -> u8 {
-    if at < told.len() {
-        told[at]
-    } else {
-        pattern(at)
+    for (at, byte) in room.iter_mut().enumerate() {
+        *byte = pattern(at);
     }
 }
 
 // Does the room hold these bytes, and behind them what it was filled with?
 pub fn holds(room: &[u8], told: &[u8]) -> bool {
-    if room.len() < told.len() {
-        return false;
-    }
-    let mut i = 0;
-    while i < room.len() {
-        if room[i] != expected(told, i) {
-            return false;
-        }
-        i += 1;
-    }
-    true
+    room.starts_with(told)
+        && room
+            .iter()
+            .enumerate()
+            .skip(told.len())
+            .all(|(at, byte)| *byte == pattern(at))
 }

@@ -1,7 +1,12 @@
 -- Every public function of the crate, in the order of the source: nothing is asked of its caller, and no two different outcomes satisfy its promise.
+use Rattle.std.specs.Prelude.{◌≡◌, []}
+use Rattle.std.proofs.Common.{subst}
+use denote.RattleType.{RattleType}
+use mathlib.Core.List.{Mem, not-mem-nil}
 use Rattle.common.specs.Promise.{Promise, by_value, by_code}
-use Rattle.outgoing.specs.Answers.{outcome, number_told, seq_told, range_told, truth_told}
-use Rattle.outgoing.specs.Laws.OneToOne.{outcome_one, number_one, seq-one, range_one, truth_one}
+use Rattle.outgoing.specs.Answers.{outcome, answer_told}
+use Rattle.outgoing.specs.Read.{told_of}
+use Rattle.outgoing.specs.Laws.OneToOne.{outcome_one, answer_told_one}
 use Rattle.outgoing.proofs.answer.Reason.number.Reads as reason-number
 use Rattle.outgoing.proofs.ack.ack_check.Reads as ack-check
 use Rattle.outgoing.proofs.ack.Ack.keeps.Reads as keeps
@@ -19,10 +24,7 @@ use Rattle.outgoing.proofs.kept.Packet.lost_now.Reads as lost-now
 use Rattle.outgoing.proofs.kept.Packet.lost_one.Reads as lost_one_lem
 use Rattle.outgoing.proofs.lost.type_of.Reads as type-of
 use Rattle.outgoing.proofs.lost.wrap_place.Reads as wrap-place
-use Rattle.outgoing.proofs.told.number_told.Reads as number_told
-use Rattle.outgoing.proofs.told.seq_told.Reads as seq-told
-use Rattle.outgoing.proofs.told.range_told.Reads as range-told
-use Rattle.outgoing.proofs.told.truth_told.Reads as truth-told
+use Rattle.outgoing.proofs.told.told.Reads as told
 use Rattle.outgoing.proofs.told.any_told.Reads as any_told
 use Rattle.outgoing.proofs.told.last_acked.Reads as last_acked
 use Rattle.outgoing.proofs.transmit.transmit_check.Reads as transmit-check
@@ -78,20 +80,13 @@ type_of_promise = by_value _ (λ κs a. tt) (λ κs a r s p. p)
 wrap_place_promise : Promise wrap-place.Pre wrap-place.Post (λ κs r s. r)
 wrap_place_promise = by_value _ (λ κs a. tt) (λ κs a r s p. p)
 
-number_told_promise : Promise number_told.Pre number_told.Post (λ κs r s. r)
-number_told_promise = by_code number_told number_one _ (λ κs a. tt) (λ κs a r s p. p)
-
-seq_told_promise : Promise seq-told.Pre seq-told.Post (λ κs r s. r)
-seq_told_promise = by_code seq_told seq-one _ (λ κs a. tt) (λ κs a r s p. p)
-
-range_told_promise : Promise range-told.Pre range-told.Post (λ κs r s. r)
-range_told_promise = by_code range_told range_one _ (λ κs a. tt) (λ κs a r s p. p)
-
-truth_told_promise : Promise truth-told.Pre truth-told.Post (λ κs r s. r)
-truth_told_promise = by_code truth_told truth_one _ (λ κs a. tt) (λ κs a r s p. p)
+-- Whatever is told, as long as it holds no borrow.
+told_promise : (T : RattleType) (laws : _) (copy : _) (ghosts : _) (dict : _) → T.lives ≡ [] → Promise (told.Pre T laws copy ghosts dict) (told.Post T laws copy ghosts dict) (λ κs r s. r)
+told_promise T laws copy ghosts dict none =
+    by_code {pre = told.Pre T laws copy ghosts dict} {post = told.Post T laws copy ghosts dict} {seen = λ κs r s. r} answer_told answer_told_one (λ κs a. told_of a.0 a.1.0) (λ κs a k m. absurd (not-mem-nil (subst (Mem k) none m))) (λ κs a r s p. p)
 
 any_told_promise : Promise any_told.Pre any_told.Post (λ κs r s. r)
-any_told_promise = by_code truth_told truth_one _ (λ κs a. tt) (λ κs a r s p. p)
+any_told_promise = by_code answer_told answer_told_one _ (λ κs a. tt) (λ κs a r s p. p)
 
 last_acked_promise : Promise last_acked.Pre last_acked.Post (λ κs r s. r)
 last_acked_promise = by_value _ (λ κs a. tt) (λ κs a r s p. p)

@@ -1,6 +1,6 @@
 -- An ack in places of the array, for the functions that do a part of the work: the base delay is worked out before, and the steps are counted. Definitions only;
 -- Laws.Hear shows that they come to what document 01 says (Ack.antt).
-use Rattle.std.specs.Prelude.{ℕ, zero, suc, ◌+◌, ◌-◌, Bool, ◌&&◌, cond, List, [], ◌∷◌, ◌++◌, leb, ltb, eqb, get_or, set, take, drop}
+use Rattle.std.specs.Prelude.{ℕ, zero, suc, ◌+◌, ◌-◌, Bool, true, false, ◌&&◌, cond, List, [], ◌∷◌, ◌++◌, leb, ltb, eqb, get_or, set, take, drop}
 use Rattle.packet.specs.Sack.{bit_of}
 use Rattle.congestion.specs.declared.numbers.Numbers.{Numbers}
 use Rattle.outgoing.specs.declared.kept.Packet.{Packet}
@@ -19,14 +19,14 @@ place_of a o = o - a.gone - 1
 
 -- Nothing heard yet.
 abbrev pub unheard_of : List Packet → Numbers → Heard
-unheard_of packets numbers = record { packets = packets; numbers = numbers; news = 0 }
+unheard_of packets numbers = record { packets = packets; numbers = numbers; news = false }
 
 unfoldable pub newly_heard_of : Ack → Heard → ℕ → Heard
 newly_heard_of a h o =
     record {
       packets = set h.packets (place_of a o) (with_acked (get_or h.packets (place_of a o) no_packet));
       numbers = credited_by a.base a.delay a.clock (get_or h.packets (place_of a o) no_packet) h.numbers;
-      news = 1;
+      news = true;
     }
 
 abbrev pub heard_step : Ack → Heard → ℕ → Heard

@@ -9,9 +9,9 @@ use crate::kept::Packet;
 use congestion::numbers::Numbers;
 use congestion::settings::Settings;
 use packet::sack;
-use packet::sack::Checked;
 
 // The checks of an ack, in their order: 11, 5, 6, 8, 12.
+// (Loose numbers, as `ack_check` of specs/Ack has them. No `?`: an `Outcome` is no Result.)
 #[tactic(auto, unfolding(crate::specs::Ack::ack_check))]
 pub fn ack_check(
     last: u64,
@@ -23,23 +23,13 @@ pub fn ack_check(
 ) -> Outcome
     ensures { outcome result ≡ ack_check last count offset bytes delay clock }
 {
-    if Settings::LATEST < clock {
+    if Settings::LATEST < clock || clock < last || Settings::LATEST < delay {
         return Outcome::Refused(Reason::BadTime);
     }
-    if clock < last {
-        return Outcome::Refused(Reason::BadTime);
-    }
-    if Settings::LATEST < delay {
-        return Outcome::Refused(Reason::BadTime);
-    }
-    let checked = sack::check(bytes);
-    if let Checked::Bad(reason) = checked {
+    if let Err(reason) = sack::check(bytes) {
         return Outcome::Refused(Reason::BadSack(reason));
     }
-    if offset == 0 {
-        return Outcome::Refused(Reason::NotSent);
-    }
-    if count < offset {
+    if offset == 0 || count < offset {
         return Outcome::Refused(Reason::NotSent);
     }
     Outcome::Done
@@ -69,18 +59,14 @@ impl Ack {
     pub fn keeps(self, offset: u64) -> bool
         ensures { result ≡ keeps_of self offset }
     {
-        ((self.gone as u64) < offset) & (offset <= (self.count as u64))
+        u64::from(self.gone) < offset && offset <= u64::from(self.count)
     }
 
     // From its transmit to the ack.
     fn round_trip(self, packet: Packet) -> u64
         ensures { result ≡ self.clock - packet.sent_at }
     {
-        if self.clock <= packet.sent_at {
-            0
-        } else {
-            self.clock - packet.sent_at
-        }
+        self.clock.saturating_sub(packet.sent_at)
     }
 
     // What a newly acknowledged packet makes of the numbers.
@@ -91,8 +77,9 @@ impl Ack {
         numbers.acked(self.base, self.delay, packet.len, packet.resent == 0, trip)
     }
 
-    // The offset that a step speaks of, or 0 where it speaks of none: the number itself, each SACK bit
-    // upward, then every earlier one that is kept.
+    // The offset that a step speaks of, or 0 where it speaks of none: the number itself, each SACK
+    // bit upward, then every earlier one that is kept.
+    // (0 and no Option, and steps by number: `heard_at` and `step_of` of specs/ are over these.)
     fn heard_at(self, sack: &[u8], bits: u32, step: u64) -> u64
         requires { step ≤ 2 ^ 33 }
         ensures { result ≡ heard_at self sack.now bits step }
@@ -111,6 +98,7 @@ impl Ack {
     }
 
     // The same of step `j` of the steps of one run and then those of another.
+    // (All six are what those two definitions are over, and this is promised by them.)
     pub fn heard(self, sack: &[u8], bits: u32, run: Run, then: Run, j: u32) -> u64
         ensures { result ≡ heard_at self sack.now bits (step_of run then j) }
     {
@@ -121,11 +109,7 @@ impl Ack {
     pub fn earlier_count(self) -> u32
         ensures { result ≡ self.offset - 1 - self.gone }
     {
-        if self.offset <= self.gone {
-            0
-        } else {
-            self.offset - self.gone - 1
-        }
+        self.offset.saturating_sub(self.gone).saturating_sub(1)
     }
 }
 
@@ -141,10 +125,11 @@ impl Run {
     }
 }
 
-// What an ack works on, and whether a packet was newly acknowledged (1) or none (0).
+// What an ack works on, and whether a packet was newly acknowledged.
+// (No call builds it: the definitions of specs/Hear and delivery's theorem are over it.)
 #[derive(Clone, Copy)]
 pub struct Heard {
     pub packets: [Packet; 512],
     pub numbers: Numbers,
-    pub news: u32,
+    pub news: bool,
 }

@@ -7,6 +7,8 @@ ghost use Rattle.outgoing.specs.Sound.{packet_sound_of, flying_of};
 ghost use Rattle.outgoing.specs.Transmit.{with_resent};
 
 // A packet that was sent. `kind` is the type's number; `acked`, `lost` and `resent` are 0 or 1.
+// They are bytes, not an enum and bools, as a state may be forged: docs/STATE.md, any bits are a
+// state.
 #[repr(C)]
 #[derive(Clone, Copy)]
 pub struct Packet {
@@ -36,28 +38,28 @@ impl Packet {
     pub fn acked_one(self) -> u32
         ensures { result ≡ acked_one self }
     {
-        if self.acked == 0 { 0 } else { 1 }
+        u32::from(self.acked != 0)
     }
 
     // What it adds to the bytes in flight.
     pub fn flying(self) -> u32
         ensures { result ≡ flying_of self }
     {
-        if self.acked == 0 { self.len } else { 0 }
+        if self.unacked() { self.len } else { 0 }
     }
 
     // Is it lost, `later` of those behind it being acknowledged?
     fn is_lost(self, later: u32) -> bool
         ensures { result ≡ is_lost_of self later }
     {
-        (self.acked == 0) & (3 <= later)
+        self.unacked() && 3 <= later
     }
 
     // The mark that goes with this.
     fn lost_mark(self, later: u32) -> u8
         ensures { result ≡ cond (is_lost_of self later) 1 0 }
     {
-        if self.is_lost(later) { 1 } else { 0 }
+        u8::from(self.is_lost(later))
     }
 
     // Does it pass the soundness test, `later` of those behind it being acknowledged?
@@ -65,6 +67,7 @@ impl Packet {
         ensures { result ≡ packet_sound_of last self later }
     {
         let mark = self.lost_mark(later);
+        // `&`, not `&&`: no branch in the walk over the kept packets, which `&&` makes slower.
         (self.kind <= 4)
             & (self.acked <= 1)
             & (self.resent <= 1)
@@ -76,40 +79,37 @@ impl Packet {
     pub fn sent_again(self) -> Packet
         ensures { result ≡ with_resent self }
     {
-        let mut next = self;
-        next.resent = 1;
-        next
+        Packet { resent: 1, ..self }
     }
 
     // Acknowledged, and so no longer lost.
     pub fn acked_now(self) -> Packet
         ensures { result ≡ with_acked self }
     {
-        let mut next = self;
-        next.acked = 1;
-        next.lost = 0;
-        next
+        Packet {
+            acked: 1,
+            lost: 0,
+            ..self
+        }
     }
 
     // Is it lost and was not before, `later` of those behind it being acknowledged?
     pub fn is_newly_lost(self, later: u32) -> bool
         ensures { result ≡ is_newly_lost_of self later }
     {
-        self.is_lost(later) & (self.lost == 0)
+        self.is_lost(later) && self.lost == 0
     }
 
     pub fn lost_now(self) -> Packet
         ensures { result ≡ with_lost self 1 }
     {
-        let mut next = self;
-        next.lost = 1;
-        next
+        Packet { lost: 1, ..self }
     }
 
     // What it adds to the count of lost packets.
     pub fn lost_one(self) -> u32
         ensures { result ≡ lost_one self }
     {
-        if self.lost == 0 { 0 } else { 1 }
+        u32::from(self.lost != 0)
     }
 }

@@ -9,6 +9,7 @@ use congestion::numbers::Numbers;
 use congestion::settings::Settings;
 
 // The checks of a transmit, in their order: 11, 12, and of a first one 15, 13, 14.
+// (Loose numbers, as `transmit_check` of specs/ has them. No `?`: an `Outcome` is no Result.)
 #[tactic(auto, unfolding(crate::specs::Transmit::transmit_check))]
 pub fn transmit_check(
     numbers: Numbers,
@@ -20,10 +21,7 @@ pub fn transmit_check(
 ) -> Outcome
     ensures { outcome result ≡ transmit_check numbers count live offset len clock }
 {
-    if Settings::LATEST < clock {
-        return Outcome::Refused(Reason::BadTime);
-    }
-    if clock < numbers.last {
+    if Settings::LATEST < clock || clock < numbers.last {
         return Outcome::Refused(Reason::BadTime);
     }
     if offset == 0 {

@@ -1,23 +1,19 @@
 -- Each case of each answer by document 01's number, with its values ("Answer numbers"). The promises use these; Laws.OneToOne shows that no two answers have the
 -- same number and values. Definitions only.
-use Rattle.std.specs.Prelude.{ℕ}
-use Rattle.common.specs.Answer.{Answer, done, refused}
+use Rattle.std.specs.Prelude.{ℕ, Option, Some, None, Result, Ok, Err}
+use Rattle.common.specs.Answer.{Answer, done, refused, answered}
 use Rattle.packet.specs.Chain.{Next, ends, onward, Sacked, nowhere, inside}
 use Rattle.packet.specs.declared.kind.PacketType.{PacketType}
 use Rattle.packet.specs.declared.kind.TypeRead.{TypeRead}
 use Rattle.packet.specs.declared.kind.TypeRead.TheVariants.{Known, UnknownType as TypeUnknown}
 use Rattle.packet.specs.declared.sack.SackReason.{SackReason}
 use Rattle.packet.specs.declared.sack.SackReason.TheVariants.{SackShort, SackNotWords, SackLong}
-use Rattle.packet.specs.declared.sack.Checked.{Checked}
-use Rattle.packet.specs.declared.sack.Checked.TheVariants.{Fine, Bad}
+use Rattle.packet.specs.declared.extension.Part.{Part}
+use Rattle.packet.specs.declared.extension.Extension.{Extension as Found}
+use Rattle.packet.specs.declared.extension.Cursor.{Cursor}
+use Rattle.packet.specs.declared.extension.PastEnd.{PastEnd}
 use Rattle.packet.specs.declared.header.HeaderReason.{HeaderReason}
 use Rattle.packet.specs.declared.header.HeaderReason.TheVariants.{TooShort, UnknownType, UnknownVersion}
-use Rattle.packet.specs.declared.extension.Step.{Step}
-use Rattle.packet.specs.declared.extension.Step.TheVariants.{Ends, Extension as StepPast, Found as StepFound}
-use Rattle.packet.specs.declared.extension.End.{End}
-use Rattle.packet.specs.declared.extension.End.TheVariants.{Extension as EndPast, At}
-use Rattle.packet.specs.declared.extension.ChainRead.{ChainRead}
-use Rattle.packet.specs.declared.extension.ChainRead.TheVariants.{Extension as ReadPast, Plain, WithSack}
 use Rattle.packet.specs.declared.decode.Packet.{Packet}
 use Rattle.packet.specs.declared.decode.Reason.{Reason}
 use Rattle.packet.specs.declared.decode.Reason.TheVariants.{BadHeader, Extension, BadSack, EmptyData}
@@ -25,8 +21,6 @@ use Rattle.packet.specs.declared.decode.Decoded.{Decoded}
 use Rattle.packet.specs.declared.decode.Decoded.TheVariants.{Accepted, Undecoded}
 use Rattle.packet.specs.declared.encode.Unwritten.{Unwritten}
 use Rattle.packet.specs.declared.encode.Unwritten.TheVariants.{BadSack as UnwrittenSack, EmptyData as UnwrittenData, NoRoom}
-use Rattle.packet.specs.declared.encode.Found.{Found}
-use Rattle.packet.specs.declared.encode.Found.TheVariants.{Fit, Unfit}
 use Rattle.packet.specs.declared.encode.Encoded.{Encoded}
 use Rattle.packet.specs.declared.encode.Encoded.TheVariants.{Written, Refused}
 
@@ -39,23 +33,21 @@ sack_number SackShort = 5
 sack_number SackNotWords = 6
 sack_number SackLong = 8
 
-abbrev pub checked : Checked → Answer ℕ
-checked (Fine n) = done n
-checked (Bad r) = refused (sack_number r)
+abbrev pub checked : Result ℕ SackReason → Answer ℕ
+checked r = answered sack_number r
 
-abbrev pub stepped : Step → Answer Next
-stepped Ends = done ends
-stepped (StepFound e next) = done (onward e next)
-stepped StepPast = refused 4
+abbrev pub stepped : Result (Option (Found × Cursor)) PastEnd → Answer Next
+stepped (Ok None) = done ends
+stepped (Ok (Some (e, next))) = done (onward e next)
+stepped (Err p) = refused 4
 
-abbrev pub ended : End → Answer ℕ
-ended (At n) = done n
-ended EndPast = refused 4
+abbrev pub sacked : Option Part → Sacked
+sacked None = nowhere
+sacked (Some p) = inside p
 
-abbrev pub chain_read : ChainRead → Answer (Sacked × ℕ)
-chain_read (Plain at) = done (nowhere, at)
-chain_read (WithSack p at) = done (inside p, at)
-chain_read ReadPast = refused 4
+abbrev pub chain_read : Result (Option Part × ℕ) PastEnd → Answer (Sacked × ℕ)
+chain_read (Ok (sack, at)) = done (sacked sack, at)
+chain_read (Err p) = refused 4
 
 abbrev pub header_number : HeaderReason → ℕ
 header_number TooShort = 1
@@ -76,10 +68,6 @@ abbrev pub unwritten_number : Unwritten → ℕ
 unwritten_number (UnwrittenSack r) = sack_number r
 unwritten_number UnwrittenData = 7
 unwritten_number NoRoom = 9
-
-abbrev pub found : Found → Answer ℕ
-found (Fit n) = done n
-found (Unfit r) = refused (unwritten_number r)
 
 abbrev pub encoded : Encoded → Answer ℕ
 encoded (Written n) = done n

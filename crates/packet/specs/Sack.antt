@@ -16,6 +16,10 @@ bit_of mask i = eqb (get_or mask (i / 8) 0 / 2 ^ (i % 8) % 2) 1
 abbrev pub meant_by : SeqNum → ℕ → SeqNum
 meant_by ack i = plus_of ack (2 + i)
 
+-- A SACK that is there: 0 to 3 bytes give 5; 4 or more, not a multiple of 4, 6.
+abbrev pub words_answer : ℕ → Answer ℕ
+words_answer n = cond (ltb n 4) (refused 5) (cond (eqb (n % 4) 0) (done n) (refused 6))
+
 -- In writing and in an ack an empty SACK means none. 1 to 3 bytes give 5; 4 or more, not a multiple of 4, 6; above 252 bytes, 8.
 abbrev pub mask_answer : ℕ → Answer ℕ
 mask_answer n = cond (eqb n 0) (done 0) (cond (ltb n 4) (refused 5) (cond (eqb (n % 4) 0) (cond (ltb 252 n) (refused 8) (done n)) (refused 6)))

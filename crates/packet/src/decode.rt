@@ -1,16 +1,17 @@
 // Reading a datagram. Any bytes get an answer.
-ghost use Rattle.std.specs.Prelude.{◌-◌, ◌≤◌, ◌≡◌, length};
-ghost use Rattle.common.specs.Answer.{done};
-ghost use Rattle.packet.specs.Decode.{decode_of, behind_header, chain_of, packet_of, payload_answer};
-ghost use Rattle.packet.specs.Answers.{reason_number, decoded};
+ghost use Rattle.std.specs.Prelude.{◌≡◌};
+ghost use Rattle.common.specs.Answer.{answered};
+ghost use Rattle.packet.specs.Decode.{decode_of, sack_answer, payload_answer};
+ghost use Rattle.packet.specs.Answers.{reason_number, sack_number, sacked, decoded};
+ghost use Rattle.packet.specs.declared.decode.Reason.TheVariants.{BadHeader, Extension, BadSack};
 
-use crate::extension::{ChainRead, Cursor, Part, read_chain};
-use crate::header::{Header, HeaderReason, is_empty_data, read_header};
-use crate::kind::{PacketType, TypeRead};
-use crate::sack::SackReason;
+use crate::extension::{Cursor, Part, PastEnd, read_chain};
+use crate::header::{Header, HeaderReason};
+use crate::sack::{SackReason, whole_words};
 
 // A datagram that was read: its header, the first SACK (no bytes where there is none), and the
 // payload, the two as parts of the datagram.
+// (Places and lengths, and no bytes for no SACK: document 01, "Packets on the wire".)
 #[derive(Clone, Copy)]
 pub struct Packet {
     pub header: Header,
@@ -27,6 +28,7 @@ pub enum Reason {
     EmptyData,
 }
 
+// An enum of the port's own in place of Result: document 01, "What must change shape".
 #[derive(Clone, Copy)]
 pub enum Decoded {
     Accepted(Packet),
@@ -34,7 +36,7 @@ pub enum Decoded {
 }
 
 impl Reason {
-    // The number of the refusal.
+    // The number of the refusal. A method and no `From`: docs/PROMISES.md promises `number`.
     pub fn number(self) -> u32
         ensures { result ≡ reason_number self }
     {
@@ -47,80 +49,84 @@ impl Reason {
     }
 }
 
+impl From<HeaderReason> for Reason {
+    ghost from_gives = { λ reason r. r ≡ BadHeader reason };
+
+    fn from(reason: HeaderReason) -> Self {
+        Self::BadHeader(reason)
+    }
+}
+
+impl From<PastEnd> for Reason {
+    ghost from_gives = { λ _ r. r ≡ Extension };
+
+    fn from(_past_end: PastEnd) -> Self {
+        Self::Extension
+    }
+}
+
+impl From<SackReason> for Reason {
+    ghost from_gives = { λ reason r. r ≡ BadSack reason };
+
+    fn from(reason: SackReason) -> Self {
+        Self::BadSack(reason)
+    }
+}
+
 impl Packet {
     // The size of a header in bytes.
     pub const HEADER_LEN: usize = 20;
 
     // Reads a datagram. Refuses with 1, 2, 3, 4, 5, 6, 7, checked in this order.
-    #[tactic(auto, using(crate::proofs::Version::of_version_one, crate::proofs::Version::of_other_version))]
     pub fn decode(datagram: &[u8]) -> Decoded
         ensures { decoded result ≡ decode_of datagram.now }
     {
-        if datagram.len() < 20 {
-            return Decoded::Undecoded(Reason::BadHeader(HeaderReason::TooShort));
-        }
-        let first = datagram[0];
-        match PacketType::of_number(first / 16) {
-            TypeRead::UnknownType => Decoded::Undecoded(Reason::BadHeader(
-                HeaderReason::UnknownType,
-            )),
-            TypeRead::Known(packet_type) => {
-                if first % 16 == 1 {
-                    decode_chain(datagram, read_header(datagram, packet_type))
-                } else {
-                    Decoded::Undecoded(Reason::BadHeader(HeaderReason::UnknownVersion))
-                }
-            }
+        match read_packet(datagram) {
+            Ok(packet) => Decoded::Accepted(packet),
+            Err(reason) => Decoded::Undecoded(reason),
         }
     }
 }
 
-// What stands behind a good header.
-fn decode_chain(datagram: &[u8], header: Header) -> Decoded
-    requires { 20 ≤ length datagram.now }
-    ensures { decoded result ≡ behind_header header (length datagram.now) (chain_of datagram.now) }
+// Each part in its order: the first refusal is the answer.
+fn read_packet(datagram: &[u8]) -> Result<Packet, Reason>
+    ensures { answered reason_number result ≡ decode_of datagram.now }
 {
-    let size = datagram.len();
-    match read_chain(
-        datagram,
-        Cursor {
-            number: datagram[1],
-            at: 20,
-        },
-    ) {
-        ChainRead::Extension => Decoded::Undecoded(Reason::Extension),
-        ChainRead::Plain(at) => finish(size, header, Part { at: 0, len: 0 }, at),
-        ChainRead::WithSack(sack, at) => {
-            if sack.len < 4 {
-                return Decoded::Undecoded(Reason::BadSack(SackReason::SackShort));
-            }
-            if sack.len % 4 != 0 {
-                return Decoded::Undecoded(Reason::BadSack(SackReason::SackNotWords));
-            }
-            finish(size, header, sack, at)
-        }
-    }
-}
-
-// The payload is all that is left of a datagram of `size` bytes from `at` on.
-fn finish(size: usize, header: Header, sack: Part, at: usize) -> Decoded
-    ensures { decoded result ≡ packet_of header (done sack) (payload_answer header size at) }
-{
-    let len = less(size, at);
-    if is_empty_data(header, len) {
-        return Decoded::Undecoded(Reason::EmptyData);
-    }
-    let payload = Part { at, len };
-    Decoded::Accepted(Packet {
+    let header = Header::read(datagram)?;
+    let first = Cursor {
+        number: datagram[1],
+        at: 20,
+    };
+    let (found, at) = read_chain(datagram, first)?;
+    let sack = sack_part(found)?;
+    let payload = payload_part(header, datagram.len(), at)?;
+    Ok(Packet {
         header,
         sack,
         payload,
     })
 }
 
-// a less b, or 0.
-fn less(a: usize, b: usize) -> usize
-    ensures { result ≡ a - b }
+// The SACK, 5, 6; a part of no bytes where there is none.
+fn sack_part(sack: Option<Part>) -> Result<Part, SackReason>
+    ensures { answered sack_number result ≡ sack_answer (sacked sack) }
 {
-    if b <= a { a - b } else { 0 }
+    match sack {
+        None => Ok(Part { at: 0, len: 0 }),
+        Some(part) => {
+            whole_words(part.len)?;
+            Ok(part)
+        }
+    }
+}
+
+// The payload, 7: all that is left of a datagram of `size` bytes from `at` on.
+fn payload_part(header: Header, size: usize, at: usize) -> Result<Part, Reason>
+    ensures { answered reason_number result ≡ payload_answer header size at }
+{
+    let len = size.saturating_sub(at);
+    if header.is_empty_data(len) {
+        return Err(Reason::EmptyData);
+    }
+    Ok(Part { at, len })
 }

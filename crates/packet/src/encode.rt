@@ -1,15 +1,15 @@
 // Writing a packet into room that the caller lends. Nothing is written on a refusal.
 ghost use Rattle.std.specs.Prelude.{◌+◌, ◌^◌, ◌≤◌, ◌≡◌, [], length};
+ghost use Rattle.common.specs.Answer.{answered};
 ghost use Rattle.common.specs.Laws.Put.{put};
-ghost use Rattle.packet.specs.Encode.{encode_of, room_of, packet_bytes, size_of, data_answer};
-ghost use Rattle.packet.specs.Sack.{mask_answer};
-ghost use Rattle.common.specs.Answer.{◌then◌};
-ghost use Rattle.packet.specs.Answers.{unwritten_number, found, encoded};
+ghost use Rattle.packet.specs.Encode.{encode_of, room_of, packet_bytes, size_of};
+ghost use Rattle.packet.specs.Answers.{unwritten_number, encoded};
+ghost use Rattle.packet.specs.declared.encode.Unwritten.TheVariants.{BadSack};
 
 use crate::decode::Packet;
-use crate::header::{Header, is_empty_data, put_header};
-use crate::number::{put_all, put16};
-use crate::sack::{Checked, SackReason, check};
+use crate::header::Header;
+use crate::number::put_all;
+use crate::sack::{SackReason, check};
 
 // Why a packet is not written: its SACK's length 5, 6, 8; Data with no payload 7; room 9.
 #[derive(Clone, Copy)]
@@ -19,6 +19,7 @@ pub enum Unwritten {
     NoRoom,
 }
 
+// An enum of the port's own in place of Result: document 01, "What must change shape".
 #[derive(Clone, Copy)]
 pub enum Encoded {
     Written(usize),
@@ -26,7 +27,7 @@ pub enum Encoded {
 }
 
 impl Unwritten {
-    // The number of the refusal.
+    // The number of the refusal. A method and no `From`: docs/PROMISES.md promises `number`.
     pub fn number(self) -> u32
         ensures { result ≡ unwritten_number self }
     {
@@ -38,68 +39,54 @@ impl Unwritten {
     }
 }
 
-// What a check of one part of a packet finds.
-#[derive(Clone, Copy)]
-enum Found {
-    Fit(usize),
-    Unfit(Unwritten),
-}
+impl From<SackReason> for Unwritten {
+    ghost from_gives = { λ reason r. r ≡ BadSack reason };
 
-// The SACK's length, 5, 6, 8.
-fn sack_part(len: usize) -> Found
-    ensures { found result ≡ mask_answer len }
-{
-    match check(len) {
-        Checked::Bad(reason) => Found::Unfit(Unwritten::BadSack(reason)),
-        Checked::Fine(n) => Found::Fit(n),
-    }
-}
-
-// The payload, 7.
-fn data_part(header: Header, len: usize) -> Found
-    ensures { found result ≡ data_answer header len }
-{
-    if is_empty_data(header, len) {
-        return Found::Unfit(Unwritten::EmptyData);
-    }
-    Found::Fit(0)
-}
-
-// Two checks, one after the other: the first refusal counts.
-fn in_order(first: Found, second: Found) -> Found
-    ensures { found result ≡ (found first then found second) }
-{
-    match first {
-        Found::Unfit(reason) => Found::Unfit(reason),
-        Found::Fit(_) => second,
+    fn from(reason: SackReason) -> Self {
+        Self::BadSack(reason)
     }
 }
 
 impl Packet {
     // Writes the packet of a header, a SACK (no bytes: none) and a payload to the front of the
     // room, and answers its size. Refuses with 5, 6, 8, 7, 9, checked in this order.
+    // (Its parts stand apart, as C hands them in: `ribsaddle_encode`.)
     pub fn encode(header: Header, sack: &[u8], payload: &[u8], room: &mut [u8]) -> Encoded
         ensures { (encoded result ≡ encode_of header sack.now payload.now (length room.old))
             × (room.new ≡ room_of header sack.now payload.now room.old) }
     {
-        let mask = sack_part(sack.len());
-        let data = data_part(header, payload.len());
-        match in_order(mask, data) {
-            Found::Unfit(reason) => Encoded::Refused(reason),
-            Found::Fit(_) => {
-                let size = size_of(sack.len(), payload.len());
-                if room.len() < size {
-                    return Encoded::Refused(Unwritten::NoRoom);
-                }
-                if sack.len() == 0 {
-                    put_plain(room, header, payload);
-                } else {
-                    put_sacked(room, header, sack, payload);
-                }
-                Encoded::Written(size)
-            }
+        match write_packet(header, sack, payload, room) {
+            Ok(size) => Encoded::Written(size),
+            Err(reason) => Encoded::Refused(reason),
         }
     }
+}
+
+// Nothing is written before the last check.
+fn write_packet(
+    header: Header,
+    sack: &[u8],
+    payload: &[u8],
+    room: &mut [u8],
+) -> Result<usize, Unwritten>
+    ensures { (answered unwritten_number result
+        ≡ encode_of header sack.now payload.now (length room.old))
+        × (room.new ≡ room_of header sack.now payload.now room.old) }
+{
+    check(sack.len())?;
+    if header.is_empty_data(payload.len()) {
+        return Err(Unwritten::EmptyData);
+    }
+    let size = size_of(sack.len(), payload.len());
+    if room.len() < size {
+        return Err(Unwritten::NoRoom);
+    }
+    if sack.is_empty() {
+        put_plain(room, header, payload);
+    } else {
+        put_sacked(room, header, sack, payload);
+    }
+    Ok(size)
 }
 
 // The size of a packet with a SACK of so many bytes.
@@ -115,22 +102,23 @@ fn size_of(sack_len: usize, payload_len: usize) -> usize
 }
 
 // Writes a packet without a SACK: the header, and behind it the payload.
+// (Apart from `put_sacked`: without a SACK its next byte, length and bytes are not there.)
 fn put_plain(room: &mut [u8], header: Header, payload: &[u8])
     requires { 20 + length payload.now ≤ length room.old }
     ensures { room.new ≡ put room.old 0 (packet_bytes header [] payload.now) }
 {
-    put_header(room, header, 0);
+    header.put(room, 0);
     put_all(room, 20, payload);
 }
 
-// Writes a packet with a SACK. Its next byte, 0, and its length are one number of two bytes.
+// Writes a packet with a SACK: its next byte is 0, then comes its length.
 fn put_sacked(room: &mut [u8], header: Header, sack: &[u8], payload: &[u8])
     requires payload_in_bounds { 22 + length sack.now + length payload.now ≤ length room.old }
     requires sack_in_bounds { (1 ≤ length sack.now) × (length sack.now ≤ 252) }
     ensures { room.new ≡ put room.old 0 (packet_bytes header sack.now payload.now) }
 {
-    put_header(room, header, 1);
-    put16(room, 20, sack.len() as u16);
+    header.put(room, 1);
+    put_all(room, 20, &[0, sack.len() as u8]);
     put_all(room, 22, sack);
     put_all(room, 22 + sack.len(), payload);
 }

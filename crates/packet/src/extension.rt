@@ -1,10 +1,11 @@
 // The chain of extensions behind the header.
 ghost use Rattle.std.specs.Prelude.{◌≡◌};
-ghost use Rattle.packet.specs.Chain.{step_of, chain_from, end_of, read_of};
+ghost use Rattle.packet.specs.Chain.{step_of, chain_from, read_of};
 ghost use Rattle.packet.specs.Decode.{part_of};
-ghost use Rattle.packet.specs.Answers.{stepped, ended, chain_read};
+ghost use Rattle.packet.specs.Answers.{stepped, chain_read};
 
 // A part of a datagram, by its place and length.
+// (No slice: document 01 shows the payload "as its place and length in the datagram".)
 #[derive(Clone, Copy)]
 pub struct Part {
     pub at: usize,
@@ -24,120 +25,65 @@ pub struct Cursor {
     pub at: usize,
 }
 
-// What a step finds: the end of the chain, an extension and where the next one stands, or a head or
-// body that runs past the end of the datagram (4).
+// A head or a body runs past the end of the datagram (4).
 #[derive(Clone, Copy)]
-pub enum Step {
-    Ends,
-    Extension,
-    Found(Extension, Cursor),
-}
-
-// Where a chain ends, unless it runs past the end of the datagram (4).
-#[derive(Clone, Copy)]
-pub(crate) enum End {
-    Extension,
-    At(usize),
-}
-
-// What decoding keeps of a chain: where it ends, and the body of its first SACK, unless it runs past
-// the end of the datagram (4).
-#[derive(Clone, Copy)]
-pub(crate) enum ChainRead {
-    Extension,
-    Plain(usize),
-    WithSack(Part, usize),
-}
-
-fn wide(x: u8) -> usize
-    ensures { result ≡ x }
-{
-    x as usize
-}
+pub struct PastEnd;
 
 impl Part {
     // The bytes of the part; none where it does not lie within the datagram.
+    // (By hand: two gets would need a match, or a closure and a default, around them.)
     pub fn bytes(self, datagram: &[u8]) -> &[u8]
         ensures { result.now ≡ part_of self datagram.now }
     {
-        let at = self.at;
-        let len = self.len;
-        if at <= datagram.len() {
-            if len <= datagram.len() - at {
-                &datagram[at..at + len]
-            } else {
-                &datagram[..0]
-            }
+        let Part { at, len } = self;
+        if at <= datagram.len() && len <= datagram.len() - at {
+            &datagram[at..at + len]
         } else {
-            &datagram[..0]
+            &[]
         }
     }
 }
 
 impl Cursor {
-    // One step along the chain.
-    pub fn step(self, datagram: &[u8]) -> Step
+    // One step along the chain: the extension found and where the next one stands, or None at the
+    // end of the chain.
+    pub fn step(self, datagram: &[u8]) -> Result<Option<(Extension, Cursor)>, PastEnd>
         ensures { stepped result ≡ step_of datagram.now self }
     {
-        let number = self.number;
-        let at = self.at;
+        let Cursor { number, at } = self;
         if number == 0 {
-            return Step::Ends;
+            return Ok(None);
         }
-        if datagram.len() < 2 {
-            return Step::Extension;
+        if datagram.len() < 2 || datagram.len() - 2 < at {
+            return Err(PastEnd);
         }
-        if datagram.len() - 2 < at {
-            return Step::Extension;
-        }
-        let len = wide(datagram[at + 1]);
+        let len = usize::from(datagram[at + 1]);
         if datagram.len() - at - 2 < len {
-            return Step::Extension;
+            return Err(PastEnd);
         }
         let body = Part { at: at + 2, len };
-        Step::Found(
+        Ok(Some((
             Extension { number, body },
             Cursor {
                 number: datagram[at],
                 at: at + 2 + len,
             },
-        )
+        )))
     }
 }
 
-// Walks the rest of a chain to its end.
-pub(crate) fn chain_end(datagram: &[u8], from: Cursor) -> End
-    ensures { ended result ≡ end_of (chain_from datagram.now from) }
-{
-    let mut cursor = from;
-    loop {
-        match cursor.step(datagram) {
-            Step::Ends => return End::At(cursor.at),
-            Step::Extension => return End::Extension,
-            Step::Found(_, next) => cursor = next,
-        }
-    }
-}
-
-// Walks the whole chain and keeps its first SACK.
-pub(crate) fn read_chain(datagram: &[u8], from: Cursor) -> ChainRead
+// Walks the whole chain: the body of its first SACK, and the place where the chain ends. The walk
+// goes by steps and not by an Iterator, since a `for` would not tell where it ended.
+pub(crate) fn read_chain(datagram: &[u8], from: Cursor) -> Result<(Option<Part>, usize), PastEnd>
     ensures { chain_read result ≡ read_of (chain_from datagram.now from) }
 {
+    let mut sack = None;
     let mut cursor = from;
-    loop {
-        match cursor.step(datagram) {
-            Step::Ends => return ChainRead::Plain(cursor.at),
-            Step::Extension => return ChainRead::Extension,
-            Step::Found(extension, next) => {
-                if extension.number == 1 {
-                    let body = extension.body;
-                    return match chain_end(datagram, next) {
-                        End::Extension => ChainRead::Extension,
-                        End::At(at) => ChainRead::WithSack(body, at),
-                    };
-                }
-                cursor = next;
-            }
+    while let Some((extension, next)) = cursor.step(datagram)? {
+        if extension.number == 1 {
+            sack = sack.or(Some(extension.body));
         }
+        cursor = next;
     }
+    Ok((sack, cursor.at))
 }

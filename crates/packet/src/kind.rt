@@ -3,7 +3,7 @@ ghost use Rattle.std.specs.Prelude.{◌≡◌};
 ghost use Rattle.packet.specs.Kind.{type_number, type_answer};
 ghost use Rattle.packet.specs.Answers.{type_read};
 
-#[derive(Clone, Copy)]
+#[derive(Clone, Copy, PartialEq, Eq)]
 pub enum PacketType {
     Data,
     Fin,
@@ -12,6 +12,7 @@ pub enum PacketType {
     Syn,
 }
 
+// An enum of the port's own in place of Option: document 01, "What must change shape".
 #[derive(Clone, Copy)]
 pub enum TypeRead {
     Known(PacketType),
@@ -19,7 +20,7 @@ pub enum TypeRead {
 }
 
 impl PacketType {
-    // The type's number on the wire.
+    // The type's number on the wire. A method and no `From`: docs/PROMISES.md promises `number`.
     pub fn number(self) -> u8
         ensures { result ≡ type_number self }
     {
@@ -33,6 +34,7 @@ impl PacketType {
     }
 
     // The type of a number, which is unknown (2) above 4.
+    // (No TryFrom: that answers a Result, and document 01 wants the enum above.)
     pub fn of_number(n: u8) -> TypeRead
         ensures { type_read result ≡ type_answer n }
     {

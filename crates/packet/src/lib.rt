@@ -1,6 +1,6 @@
-// The uTP packet (BEP 29): types, header, extension chain, selective ACK, reader and writer. Nothing is
-// copied out of a datagram and nothing is allocated: what a datagram holds is shown as a place and a
-// length in it.
+// The uTP packet (BEP 29): types, header, extension chain, selective ACK, reader and writer.
+// Nothing is copied out of a datagram and nothing is allocated: what a datagram holds is shown as a
+// place and a length in it.
 
 #![tactic(auto)]
 

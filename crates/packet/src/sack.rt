@@ -1,6 +1,6 @@
 // The selective ACK: a mask of bits, the lowest of the first byte first. Bit 0 means ack + 2.
 ghost use Rattle.std.specs.Prelude.{◌≡◌, ◌/◌, ◌%◌, ◌^◌, eqb};
-ghost use Rattle.packet.specs.Sack.{bit_count_of, bit_of, meant_by, mask_answer};
+ghost use Rattle.packet.specs.Sack.{bit_count_of, bit_of, meant_by, mask_answer, words_answer};
 ghost use Rattle.packet.specs.Answers.{sack_number, checked};
 
 use seq::SeqNum;
@@ -14,14 +14,8 @@ pub enum SackReason {
     SackLong,
 }
 
-#[derive(Clone, Copy)]
-pub enum Checked {
-    Fine(usize),
-    Bad(SackReason),
-}
-
 impl SackReason {
-    // The number of the refusal.
+    // The number of the refusal. A method and no `From`: docs/PROMISES.md promises `number`.
     pub fn number(self) -> u32
         ensures { result ≡ sack_number self }
     {
@@ -33,35 +27,39 @@ impl SackReason {
     }
 }
 
-// May a mask of so many bytes be written, or be heard in an ack? No bytes mean no SACK. Else 5, 6, 8.
-pub fn check(len: usize) -> Checked
+// One 32-bit word or more, and no part of one: else 5, 6.
+pub(crate) fn whole_words(len: usize) -> Result<usize, SackReason>
+    ensures { checked result ≡ words_answer len }
+{
+    if len < 4 {
+        return Err(SackReason::SackShort);
+    }
+    if len % 4 != 0 {
+        return Err(SackReason::SackNotWords);
+    }
+    Ok(len)
+}
+
+// May a mask of so many bytes be written, or be heard in an ack? No bytes mean no SACK. Else 5, 6,
+// 8.
+pub fn check(len: usize) -> Result<usize, SackReason>
     ensures { checked result ≡ mask_answer len }
 {
     if len == 0 {
-        return Checked::Fine(len);
+        return Ok(len);
     }
-    if len < 4 {
-        return Checked::Bad(SackReason::SackShort);
-    }
-    if len % 4 != 0 {
-        return Checked::Bad(SackReason::SackNotWords);
-    }
+    let len = whole_words(len)?;
     if 252 < len {
-        return Checked::Bad(SackReason::SackLong);
+        return Err(SackReason::SackLong);
     }
-    Checked::Fine(len)
+    Ok(len)
 }
 
 // How many bits a mask has.
 pub fn bit_count(mask: &[u8]) -> usize
     ensures { result ≡ bit_count_of mask.now }
 {
-    let len = mask.len();
-    if len <= usize::MAX / 8 {
-        8 * len
-    } else {
-        usize::MAX
-    }
+    mask.len().saturating_mul(8)
 }
 
 // Is the bit set in its byte? Within a byte the order is from the lowest.
@@ -75,11 +73,9 @@ fn is_set_in(byte: u8, bit: usize) -> bool
 pub fn is_set(mask: &[u8], bit: usize) -> bool
     ensures { result ≡ bit_of mask.now bit }
 {
-    let at = bit / 8;
-    if at < mask.len() {
-        is_set_in(mask[at], bit)
-    } else {
-        false
+    match mask.get(bit / 8) {
+        Some(byte) => is_set_in(*byte, bit),
+        None => false,
     }
 }
 

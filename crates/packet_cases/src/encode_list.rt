@@ -1,6 +1,7 @@
-// encode.bin: a packet's parts and the room for it, the answer number, and what is written. The room is
-// filled with a pattern first, so that every byte that must stay as it was can be told.
-use list::{behind, behind_part, fill, four, holds, number, part, tells, two};
+// encode.bin: a packet's parts and the room for it, the answer number, and what is written. The
+// room is filled with a pattern first, so that every byte that must stay as it was can be told.
+use crate::records::{self, Compared};
+use list::{behind, behind_part, fill, four, holds, number, part, two};
 use packet::decode::Packet;
 use packet::encode::Encoded;
 use packet::header::Header;
@@ -8,23 +9,20 @@ use packet::kind::{PacketType, TypeRead};
 use report::tally::Tally;
 use report::text::front;
 use seq::SeqNum;
-use std::num::wrapping_add_usize;
 
-fn known(read: TypeRead) -> PacketType {
-    match read {
+// The type of a number, and Reset for one that no type has.
+// (A list may have one. sent_replay has this of its own lists.)
+fn type_of(number: u8) -> PacketType {
+    match PacketType::of_number(number) {
         TypeRead::Known(packet_type) => packet_type,
         TypeRead::UnknownType => PacketType::Reset,
     }
 }
 
-fn type_of(record: &[u8]) -> PacketType {
-    known(PacketType::of_number((number(record, 0, 1) % 256) as u8))
-}
-
 // The record begins with kind, connection, timestamp, difference, window, sequence and ack.
 fn header_of(record: &[u8]) -> Header {
     Header {
-        packet_type: type_of(record),
+        packet_type: type_of((number(record, 0, 1) % 256) as u8),
         conn_id: two(record, 1),
         ts_micros: four(record, 3),
         ts_diff_micros: four(record, 7),
@@ -34,98 +32,70 @@ fn header_of(record: &[u8]) -> Header {
     }
 }
 
-// Behind them stand the SACK, the payload, and what is seen: room, answer, source, and how many bytes
-// are written and those.
-fn sack_part(record: &[u8]) -> &[u8] {
-    behind(record, 19)
-}
-
-fn payload_part(record: &[u8]) -> &[u8] {
-    behind_part(sack_part(record))
-}
-
-fn seen(record: &[u8]) -> &[u8] {
-    behind_part(payload_part(record))
-}
-
-// An answer's number, and how many bytes were written.
-#[derive(Clone, Copy)]
-struct Answer {
-    number: u64,
-    written: u64,
-}
-
-fn answer_of(encoded: Encoded) -> Answer {
+// The answer's number and how many bytes were written, as the recorded lists have them.
+fn answer_of(encoded: Encoded) -> (u64, u64) {
     match encoded {
-        Encoded::Written(size) => Answer {
-            number: 0,
-            written: size as u64,
-        },
-        Encoded::Refused(reason) => Answer {
-            number: reason.number() as u64,
-            written: 0,
-        },
+        Encoded::Written(size) => (0, size as u64),
+        Encoded::Refused(reason) => (reason.number() as u64, 0),
     }
 }
 
-// Fills the room with the pattern, and lends it to the writer.
-fn write(header: Header, sack: &[u8], payload: &[u8], room: &mut [u8]) -> Answer {
-    fill(room);
-    answer_of(Packet::encode(header, sack, payload, room))
+// A record: its header, and what stands from the SACK on, from the payload on, and from what is
+// seen on: room, answer, source, and how many bytes are written and those.
+#[derive(Clone, Copy)]
+struct Record<'a> {
+    header: Header,
+    sack: &'a [u8],
+    payload: &'a [u8],
+    seen: &'a [u8],
 }
 
-// Is the answer, and the room behind it, as recorded?
-fn is_seen(answer: Answer, room: &[u8], seen: &[u8]) -> bool {
-    let told = front(behind(seen, 10), four(seen, 6) as usize);
-    tells(seen, 4, 1, answer.number) & tells(seen, 6, 4, answer.written) & holds(room, told)
-}
-
-fn is_same_in(record: &[u8], room: &mut [u8]) -> bool {
-    let sack = part(sack_part(record));
-    let payload = part(payload_part(record));
-    let answer = write(header_of(record), sack, payload, room);
-    is_seen(answer, room, seen(record))
-}
-
-// Lends room of just the length asked for.
-fn is_same(record: &[u8], buffer: &mut [u8]) -> bool {
-    let room = four(seen(record), 0) as usize;
-    if room <= buffer.len() {
-        is_same_in(record, &mut buffer[..room])
-    } else {
-        false
-    }
-}
-
-// How many bytes the record has.
-fn size_of(record: &[u8]) -> usize {
-    let sack_len = two(sack_part(record), 0) as usize;
-    let payload_len = two(payload_part(record), 0) as usize;
-    33 + sack_len + payload_len + four(seen(record), 6) as usize
-}
-
-// One record more.
-pub(crate) fn counted(tally: Tally, record: &[u8], buffer: &mut [u8]) -> Tally {
-    let is_whole = size_of(record) <= record.len();
-    let answer = number(seen(record), 4, 1);
-    tally.counted(answer, is_whole & is_same(record, buffer))
-}
-
-fn replay_all(list: &[u8], buffer: &mut [u8]) -> Tally {
-    let mut tally = Tally::new();
-    let mut at = 0;
-    for _ in 0..u64::MAX {
-        if at >= list.len() {
-            return tally;
+impl<'a> Record<'a> {
+    // The first record of these bytes.
+    fn of(bytes: &'a [u8]) -> Self {
+        let sack = behind(bytes, 19);
+        let payload = behind_part(sack);
+        Self {
+            header: header_of(bytes),
+            sack,
+            payload,
+            seen: behind_part(payload),
         }
-        let record = behind(list, at);
-        tally = counted(tally, record, buffer);
-        at = wrapping_add_usize(at, size_of(record));
     }
-    tally
+
+    // How many bytes it has.
+    fn size(self) -> usize {
+        let sack_len = two(self.sack, 0) as usize;
+        let payload_len = two(self.payload, 0) as usize;
+        33 + sack_len + payload_len + four(self.seen, 6) as usize
+    }
+
+    // Is the packet, written into this room, answered as recorded, and the room behind it as
+    // recorded?
+    fn is_same_in(self, room: &mut [u8]) -> bool {
+        fill(room);
+        let encoded = Packet::encode(self.header, part(self.sack), part(self.payload), room);
+        let seen = self.seen;
+        let told = front(behind(seen, 10), four(seen, 6) as usize);
+        answer_of(encoded) == (number(seen, 4, 1), number(seen, 6, 4)) && holds(room, told)
+    }
+}
+
+// Compares the first record of these bytes. Room of just the length that it asks for is lent.
+pub(crate) fn compared(bytes: &[u8], buffer: &mut [u8]) -> Compared {
+    let record = Record::of(bytes);
+    let is_same = match buffer.get_mut(..four(record.seen, 0) as usize) {
+        Some(room) => record.is_same_in(room),
+        None => false,
+    };
+    Compared {
+        size: record.size(),
+        answer: number(record.seen, 4, 1),
+        is_same,
+    }
 }
 
 pub(crate) fn replay(list: &[u8]) -> Tally {
     let mut buffer = [0u8; 65808];
-    replay_all(list, &mut buffer)
+    records::replay(list, |bytes| compared(bytes, &mut buffer))
 }

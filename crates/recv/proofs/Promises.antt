@@ -3,9 +3,11 @@
 use mathlib.Core.List.{List}
 use Prim.Native.Nat.{ℕ}
 use Rattle.common.specs.Promise.{Promise, by_value}
-use Rattle.recv.specs.declared.Count.{Count}
-use Rattle.recv.specs.declared.Taken.{Taken}
-use Rattle.recv.specs.declared.Written.{Written}
+use Rattle.recv.specs.declared.Answered.{Answered}
+use Rattle.recv.specs.declared.Counts.{Counts}
+use Rattle.recv.specs.declared.ReceiveBuffer.{ReceiveBuffer}
+use Rattle.recv.specs.declared.Told.{Told}
+use Rattle.recv.specs.declared.Writing.{Writing}
 use Rattle.recv.proofs.Refusal.number.Reads as number
 use Rattle.recv.proofs.ReceiveBuffer.new.Reads as new
 use Rattle.recv.proofs.ReceiveBuffer.write.Reads as write
@@ -21,8 +23,6 @@ use Rattle.recv.proofs.ReceiveBuffer.ready.Reads as ready
 use Rattle.recv.proofs.ReceiveBuffer.waiting.Reads as waiting
 use Rattle.recv.proofs.ReceiveBuffer.waiting_bytes.Reads as waiting-bytes
 use Rattle.recv.specs.Lent.{counts_of}
-use Rattle.recv.specs.declared.StepWrite.{StepWrite}
-use Rattle.recv.specs.declared.StepRead.{StepRead}
 use Rattle.recv.proofs.Counts.write_in.Reads as write-in
 use Rattle.recv.proofs.Counts.read_in.Reads as read-in
 
@@ -32,10 +32,10 @@ number_promise = by_value _ (λ κs a. tt) (λ κs a r s p. p)
 new_promise : Promise new.Pre new.Post (λ κs r s. r)
 new_promise = by_value _ (λ κs a. tt) (λ κs a r s p. p)
 
-write_promise : Promise {W = Written × List ℕ} write.Pre write.Post (λ κs r s. (r, s.1.0.now))
+write_promise : Promise {W = Answered Writing ReceiveBuffer × List ℕ} write.Pre write.Post (λ κs r s. (r, s.1.0.now))
 write_promise = by_value _ (λ κs a. tt) (λ κs a r s p. λ i. (p.0 i, p.1 i))
 
-read_promise : Promise {W = Taken × List ℕ × List ℕ} read.Pre read.Post (λ κs r s. (r, s.1.0.now, s.1.1.0.now))
+read_promise : Promise {W = Answered (Told ℕ) ReceiveBuffer × List ℕ × List ℕ} read.Pre read.Post (λ κs r s. (r, s.1.0.now, s.1.1.0.now))
 read_promise = by_value _ (λ κs a. tt) (λ κs a r s p. λ i. (p.0 i, p.1 i, p.2 i))
 
 available_promise : Promise available.Pre available.Post (λ κs r s. r)
@@ -53,7 +53,7 @@ was_written_promise = by_value _ (λ κs a. tt) (λ κs a r s p. p)
 ack_num_promise : Promise ack-num.Pre ack-num.Post (λ κs r s. r)
 ack_num_promise = by_value _ (λ κs a. tt) (λ κs a r s p. p)
 
-selective_ack_promise : Promise {W = Count × List ℕ} selective-ack.Pre selective-ack.Post (λ κs r s. (r, s.1.0.now))
+selective_ack_promise : Promise {W = Told ℕ × List ℕ} selective-ack.Pre selective-ack.Post (λ κs r s. (r, s.1.0.now))
 selective_ack_promise = by_value _ (λ κs a. tt) (λ κs a r s p. λ i. (p.0 i, p.1 i))
 
 count_promise : Promise count.Pre count.Post (λ κs r s. r)
@@ -69,9 +69,9 @@ waiting_bytes_promise : Promise waiting-bytes.Pre waiting-bytes.Post (λ κs r s
 waiting_bytes_promise = by_value _ (λ κs a. tt) (λ κs a r s p. p)
 
 -- The answer and the counts, the table and the buffer.
-write_in_promise : Promise {W = StepWrite × List ℕ × List ℕ} write-in.Pre write-in.Post (λ κs r s. (r, s.1.0.now, s.1.1.0.now))
-write_in_promise = by_value _ (λ κs a. tt) (λ κs a r s p. λ i. (record { answer = (p.0 i).answer; counts = counts_of (p.0 i).state }, (p.0 i).state.waiting, p.1 i))
+write_in_promise : Promise {W = Answered Writing Counts × List ℕ × List ℕ} write-in.Pre write-in.Post (λ κs r s. (r, s.1.0.now, s.1.1.0.now))
+write_in_promise = by_value _ (λ κs a. tt) (λ κs a r s p. λ i. (record { answer = (p.0 i).answer; state = counts_of (p.0 i).state }, (p.0 i).state.waiting, p.1 i))
 
--- The answer and the ready count, the buffer and the output.
-read_in_promise : Promise {W = StepRead × List ℕ × List ℕ} read-in.Pre read-in.Post (λ κs r s. (r, s.1.1.0.now, s.1.1.1.0.now))
-read_in_promise = by_value _ (λ κs a. tt) (λ κs a r s p. λ i. (record { answer = (p.0 i).answer; ready = (p.0 i).state.ready }, p.1 i, p.2 i))
+-- The answer and the counts, the buffer and the output.
+read_in_promise : Promise {W = Answered (Told ℕ) Counts × List ℕ × List ℕ} read-in.Pre read-in.Post (λ κs r s. (r, s.1.1.0.now, s.1.1.1.0.now))
+read_in_promise = by_value _ (λ κs a. tt) (λ κs a r s p. λ i. (record { answer = (p.0 i).answer; state = counts_of (p.0 i).state }, p.1 i, p.2 i))

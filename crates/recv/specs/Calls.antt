@@ -6,14 +6,13 @@ use Rattle.seq.specs.declared.SeqNum.{SeqNum}
 use Rattle.recv.specs.Table.{sack_of}
 use Rattle.recv.specs.State.{table_of, sound_of}
 use Rattle.recv.specs.Receiver.{Receiver, joined, lengths_of, rule_of, stored_of, changed, read_of}
-use Rattle.recv.specs.declared.Count.{Count}
-use Rattle.recv.specs.declared.Count.TheVariants.{Is, Refused}
+use Rattle.recv.specs.declared.Answered.{Answered}
 use Rattle.recv.specs.declared.ReceiveBuffer.{ReceiveBuffer}
 use Rattle.recv.specs.declared.Refusal.TheVariants.{NoRoom, OtherLength, NotSound}
-use Rattle.recv.specs.declared.Taken.{Taken}
+use Rattle.recv.specs.declared.Told.{Told}
+use Rattle.recv.specs.declared.Told.TheVariants.{Is, Refused}
 use Rattle.recv.specs.declared.Writing.{Writing}
 use Rattle.recv.specs.declared.Writing.TheVariants.{Refused as write-refused}
-use Rattle.recv.specs.declared.Written.{Written}
 
 -- ---- what a state and the bytes of its buffer stand for: the ready bytes, then the waiting payloads by offset, end to end, then spare bytes
 
@@ -66,7 +65,7 @@ answer_of s size number n =
 abbrev pub after_write : ReceiveBuffer → List ℕ → SeqNum → List ℕ → Receiver
 after_write s buf number payload = stored_of (receiver_of s buf) (offset_of number s.initial).0 payload
 
-abbrev pub written_of : ReceiveBuffer → List ℕ → SeqNum → List ℕ → Written
+abbrev pub written_of : ReceiveBuffer → List ℕ → SeqNum → List ℕ → Answered Writing ReceiveBuffer
 written_of s buf number payload =
     let answer = answer_of s (length buf) number (length payload) in
     record { answer = answer; state = changed answer (state_of s.waiting (after_write s buf number payload)) s }
@@ -80,10 +79,10 @@ abbrev pub ready_for : ReceiveBuffer → ℕ → Bool
 ready_for s size = sound_of s && eqb size s.length
 
 -- why a call on a state and a buffer is refused
-abbrev pub why_not : ReceiveBuffer → Count
+abbrev pub why_not : ReceiveBuffer → Told ℕ
 why_not s = cond (sound_of s) (Refused OtherLength) (Refused NotSound)
 
-abbrev pub taken_of : ReceiveBuffer → List ℕ → List ℕ → Taken
+abbrev pub taken_of : ReceiveBuffer → List ℕ → List ℕ → Answered (Told ℕ) ReceiveBuffer
 taken_of s buf out =
     let n = min (length out) s.ready in
     cond (ready_for s (length buf))
@@ -98,7 +97,7 @@ taken_out_of s buf out = cond (ready_for s (length buf)) (over (take (min (lengt
 
 -- ---- the selective ACK written to lent room: 19; too little room gives 9; bytes past it are untouched
 
-abbrev pub acked_of : ReceiveBuffer → ℕ → Count
+abbrev pub acked_of : ReceiveBuffer → ℕ → Told ℕ
 acked_of s room =
     cond (sound_of s)
     (cond (leb (length (sack_of (table_of s))) room)

@@ -1,15 +1,12 @@
 -- Document 01's number and values for each answer of the receiver: the answer number, then the values that come with it ("Answer numbers"). Definitions only.
-use Rattle.std.specs.Prelude.{ℕ, cond, List, [], ◌∷◌}
-use Rattle.recv.specs.declared.Count.{Count}
-use Rattle.recv.specs.declared.Count.TheVariants.{Is as count_is, Refused as count-refused}
+use Rattle.std.specs.Prelude.{ℕ, Bool, cond, List, [], ◌∷◌}
+use Rattle.seq.specs.declared.SeqNum.{SeqNum}
 use Rattle.recv.specs.declared.Creation.{Creation}
 use Rattle.recv.specs.declared.Creation.TheVariants.{Made, Refused as creation-refused}
-use Rattle.recv.specs.declared.Number.{Number}
-use Rattle.recv.specs.declared.Number.TheVariants.{Is as number_is, Refused as number-refused}
 use Rattle.recv.specs.declared.Refusal.{Refusal}
 use Rattle.recv.specs.declared.Refusal.TheVariants.{NoRoom, BadSetting, TooMany, TooFarAhead, PayloadTooLong, OtherLength, NotSound}
-use Rattle.recv.specs.declared.Truth.{Truth}
-use Rattle.recv.specs.declared.Truth.TheVariants.{Is as truth-is, Refused as truth-refused}
+use Rattle.recv.specs.declared.Told.{Told}
+use Rattle.recv.specs.declared.Told.TheVariants.{Is, Refused as told-refused}
 use Rattle.recv.specs.declared.Writing.{Writing}
 use Rattle.recv.specs.declared.Writing.TheVariants.{Stored, AlreadyThere, Refused as writing-refused}
 
@@ -33,14 +30,16 @@ of_writing Stored = 0 ∷ 1 ∷ []
 of_writing AlreadyThere = 0 ∷ 0 ∷ []
 of_writing (writing-refused why) = number_of why ∷ []
 
-abbrev pub of_count : Count → List ℕ
-of_count (count_is n) = 0 ∷ n ∷ []
-of_count (count-refused why) = number_of why ∷ []
+-- what is told, by the number that stands for it
+abbrev pub of_told : {A : Type 0} → (A → ℕ) → Told A → List ℕ
+of_told value (Is a) = 0 ∷ value a ∷ []
+of_told value (told-refused why) = number_of why ∷ []
 
-abbrev pub of_truth : Truth → List ℕ
-of_truth (truth-is b) = 0 ∷ cond b 1 0 ∷ []
-of_truth (truth-refused why) = number_of why ∷ []
+abbrev pub of_count : Told ℕ → List ℕ
+of_count = of_told (λ n. n)
 
-abbrev pub of_number : Number → List ℕ
-of_number (number_is n) = 0 ∷ n.0 ∷ []
-of_number (number-refused why) = number_of why ∷ []
+abbrev pub of_truth : Told Bool → List ℕ
+of_truth = of_told (λ b. cond b 1 0)
+
+abbrev pub of_number : Told SeqNum → List ℕ
+of_number = of_told (λ n. n.0)

@@ -6,9 +6,9 @@ use Rattle.seq.specs.declared.SeqNum.{SeqNum}
 use Rattle.recv.specs.State.{fresh_of}
 use Rattle.recv.specs.Receiver.{Receiver, changed}
 use Rattle.recv.specs.Calls.{answer_of, written_of, written_room_of, taken_of, taken_room_of, taken_out_of}
-use Rattle.recv.specs.declared.Count.{Count}
-use Rattle.recv.specs.declared.Count.TheVariants.{Is, Refused}
 use Rattle.recv.specs.declared.ReceiveBuffer.{ReceiveBuffer}
+use Rattle.recv.specs.declared.Told.{Told}
+use Rattle.recv.specs.declared.Told.TheVariants.{Is, Refused}
 
 -- a call that can change something: a payload under its number, or output to read into
 pub data Call : Type 0 where
@@ -41,7 +41,7 @@ abbrev pub waiting_under : Receiver → ℕ → Option (List ℕ)
 waiting_under r o = get_or r.waiting (o - (r.count + 1)) none
 
 -- what a read put into its output
-abbrev pub output_of : Count → List ℕ → List ℕ
+abbrev pub output_of : Told ℕ → List ℕ → List ℕ
 output_of (Is n) out = take n out
 output_of (Refused why) out = []
 

@@ -3,16 +3,13 @@ use Rattle.std.specs.Prelude.{ℕ, ◌+◌, Bool, true, cond, not, ◌&&◌, Lis
 use Rattle.seq.specs.Seq.{plus_of, offset_of}
 use Rattle.seq.specs.declared.SeqNum.{SeqNum}
 use Rattle.recv.specs.Table.{waits, bytes_in, how_many, last_waits, largest_length, limit, ahead, there_of}
-use Rattle.recv.specs.declared.Count.{Count}
-use Rattle.recv.specs.declared.Count.TheVariants.{Is as count_is, Refused as count-refused}
-use Rattle.recv.specs.declared.Created.{Created}
+use Rattle.recv.specs.declared.Answered.{Answered}
+use Rattle.recv.specs.declared.Creation.{Creation}
 use Rattle.recv.specs.declared.Creation.TheVariants.{Made, Refused as creation-refused}
-use Rattle.recv.specs.declared.Number.{Number}
-use Rattle.recv.specs.declared.Number.TheVariants.{Is as number_is, Refused as number-refused}
 use Rattle.recv.specs.declared.ReceiveBuffer.{ReceiveBuffer}
 use Rattle.recv.specs.declared.Refusal.TheVariants.{BadSetting, NotSound}
-use Rattle.recv.specs.declared.Truth.{Truth}
-use Rattle.recv.specs.declared.Truth.TheVariants.{Is as truth-is, Refused as truth-refused}
+use Rattle.recv.specs.declared.Told.{Told}
+use Rattle.recv.specs.declared.Told.TheVariants.{Is, Refused}
 
 -- what stands in the table for the offsets past those in order, up to the furthest that waits
 abbrev pub table_of : ReceiveBuffer → List ℕ
@@ -37,11 +34,11 @@ abbrev pub fresh_of : SeqNum → ℕ → ReceiveBuffer
 fresh_of initial size = record { initial = initial; length = size; count = 0; ready = 0; span = 0; waiting = replicate 256 0 }
 
 -- with a refusal stands a state of length 0, which no call takes
-abbrev pub no_receiver_of : SeqNum → Created
+abbrev pub no_receiver_of : SeqNum → Answered Creation ReceiveBuffer
 no_receiver_of initial = record { answer = creation-refused BadSetting; state = fresh_of initial 0 }
 
 -- Document 01, "Receiving": buffer length 1 to 65,536, else 10.
-abbrev pub created_of : SeqNum → ℕ → Created
+abbrev pub created_of : SeqNum → ℕ → Answered Creation ReceiveBuffer
 created_of initial size =
     cond (leb 1 size && leb size largest_length)
     (record { answer = Made; state = fresh_of initial size })
@@ -49,14 +46,8 @@ created_of initial size =
 
 -- ---- what is answered of a state: 19 where it is not sound
 
-abbrev pub counted_of : ReceiveBuffer → ℕ → Count
-counted_of s n = cond (sound_of s) (count_is n) (count-refused NotSound)
-
-abbrev pub told_of : ReceiveBuffer → Bool → Truth
-told_of s b = cond (sound_of s) (truth-is b) (truth-refused NotSound)
-
-abbrev pub numbered_of : ReceiveBuffer → SeqNum → Number
-numbered_of s n = cond (sound_of s) (number_is n) (number-refused NotSound)
+abbrev pub told_of : {A : Type 0} → ReceiveBuffer → A → Told A
+told_of s a = cond (sound_of s) (Is a) (Refused NotSound)
 
 -- the receiver's ack number is the initial number plus c, modulo 65,536
 abbrev pub ack_of : ReceiveBuffer → SeqNum

@@ -9,19 +9,21 @@ mod bytes;
 mod sack;
 mod waiting;
 
-ghost use Rattle.std.specs.Prelude.{◌≡◌, ◌≤◌, ◌<◌, min, length, take};
+ghost use Rattle.std.specs.Prelude.{◌≡◌, ◌<◌, length, take};
 ghost use Rattle.recv.specs.Calls.{receiver_of, over, state_of, room_of, answer_of, after_write, written_of, written_room_of, taken_of, taken_room_of, taken_out_of, acked_of, acked_room_of};
-ghost use Rattle.recv.specs.Lent.{Held, whole, state_in, whole_written, whole_taken};
+ghost use Rattle.recv.specs.Lent.{Held, whole, whole_answered};
 ghost use Rattle.recv.specs.Receiver.{read_of};
 ghost use Rattle.recv.specs.Numbers.{number_of};
 ghost use Rattle.recv.specs.Laws.Steps.{Placeable, placed_of};
 ghost use Rattle.recv.specs.Laws.Reading.{Takes};
-ghost use Rattle.recv.specs.State.{sound_of, created_of, no_receiver_of, counted_of, told_of, numbered_of, ack_of, written_before, empty_of, table_of};
+ghost use Rattle.recv.specs.State.{sound_of, created_of, fresh_of, told_of, ack_of, written_before, empty_of, table_of};
 ghost use Rattle.recv.specs.Table.{bytes_in, how_many, there_of, free_of};
 
-// A receiver by value. `count` payloads are in order. The first `span` entries of `waiting` stand for
-// the offsets past them: 0 where nothing waits, else the payload's length plus 1. The lent buffer
-// holds `ready` bytes in order, then the waiting payloads by offset, end to end, then spare bytes.
+// A receiver by value. `count` payloads are in order. The first `span` entries of `waiting` stand
+// for the offsets past them: 0 where nothing waits, else the payload's length plus 1. The lent
+// buffer holds `ready` bytes in order, then the waiting payloads by offset, end to end, then spare
+// bytes.
+// (Document 01: a lent buffer beside a table of lengths. No Option in it: any bits are a state.)
 #[repr(C)]
 #[derive(Clone, Copy)]
 pub struct ReceiveBuffer {
@@ -53,7 +55,7 @@ pub enum Refusal {
 }
 
 impl Refusal {
-    // The number of the refusal.
+    // The number of the refusal. A method and no `From`: `Refusal::number` is what is promised.
     pub fn number(self) -> u32
         ensures { result ≡ number_of self }
     {
@@ -70,20 +72,15 @@ impl Refusal {
 }
 
 // What a call that makes a receiver answers.
+// An enum of the port's own in place of Result: document 01, "What must change shape".
 #[derive(Clone, Copy)]
 pub enum Creation {
     Made,
     Refused(Refusal),
 }
 
-// The answer, and beside it the receiver; with a refusal, a state of length 0, which no call takes.
-#[derive(Clone, Copy)]
-pub struct Created {
-    pub answer: Creation,
-    pub state: ReceiveBuffer,
-}
-
 // What a write answers.
+// An enum of the port's own in place of Result: document 01, "What must change shape".
 #[derive(Clone, Copy)]
 pub enum Writing {
     Stored,
@@ -91,42 +88,27 @@ pub enum Writing {
     Refused(Refusal),
 }
 
-// The answer of a write, and beside it the receiver.
+// What is told, as how many or whether, or why not.
+// An enum of the port's own in place of Result: document 01, "What must change shape". The
+// tracker's `Told` holds the tracker's reasons: one over both would be Result by another name.
 #[derive(Clone, Copy)]
-pub struct Written {
-    pub answer: Writing,
-    pub state: ReceiveBuffer,
-}
-
-// How many bytes a read took, or why none; and beside it the receiver.
-#[derive(Clone, Copy)]
-pub struct Taken {
-    pub answer: Count,
-    pub state: ReceiveBuffer,
-}
-
-// How many, or why not.
-#[derive(Clone, Copy)]
-pub enum Count {
-    Is(usize),
+pub enum Told<T> {
+    Is(T),
     Refused(Refusal),
 }
 
-// Whether it holds, or why that is not said.
+// What a call answers, and beside it the state after the call. With a refusal the state is as it
+// was; where none was made, it is of length 0, which no call takes.
+// (Document 01: a state is a plain value, handed in and handed back.)
 #[derive(Clone, Copy)]
-pub enum Truth {
-    Is(bool),
-    Refused(Refusal),
+pub struct Answered<A, S> {
+    pub answer: A,
+    pub state: S,
 }
 
-// Which number, or why none.
-#[derive(Clone, Copy)]
-pub enum Number {
-    Is(SeqNum),
-    Refused(Refusal),
-}
-
-// A receiver apart from its table, which is lent beside it.
+// A receiver apart from its table, which is lent beside it. `ReceiveBuffer` has these five fields
+// for itself, as the C header has them: the definitions (specs/State.antt) and docs/STATE.md name
+// them so.
 #[repr(C)]
 #[derive(Clone, Copy)]
 pub struct Counts {
@@ -137,34 +119,27 @@ pub struct Counts {
     pub span: u32,
 }
 
-// The answer of a write in place, and beside it the counts.
-#[derive(Clone, Copy)]
-pub struct StepWrite {
-    pub answer: Writing,
-    pub counts: Counts,
-}
-
-// The answer of a read in place, and beside it how many bytes are ready: nothing else changes.
-#[derive(Clone, Copy)]
-pub struct StepRead {
-    pub answer: Count,
-    pub ready: u32,
-}
-
-// What the calls do, with the table lent: nothing of it is copied, and only what changes is written.
+// What the calls do, with the table lent: it is not copied, and only what changes is written.
 impl Counts {
-    // How many bytes wait. The functions below are handed this, so that the table is passed over once.
+    // The places that the table has. A state that is not sound may name more than there are.
+    fn table(self, waiting: &[u32; 256]) -> &[u32]
+        ensures { result.now ≡ table_of (whole self waiting.now) }
+    {
+        &waiting[..(self.span as usize).min(256)]
+    }
+
+    // How many bytes wait. The functions below are handed this, so that the table is passed over
+    // once: as a number, since clauses over a struct with a lent table say `entry` at each field.
     fn held(self, waiting: &[u32; 256]) -> u64
-        requires { length waiting.now ≡ 256 }
         ensures { Held (whole self waiting.now) result }
     {
-        waiting::bytes_in(waiting, smaller(self.span as usize, 256))
+        waiting::bytes_in(self.table(waiting))
     }
 
     // Whether the state passes the soundness test.
     #[tactic(auto, unfolding(crate::specs::State::sound_of))]
     fn is_sound(self, waiting: &[u32; 256], held: u64) -> bool
-        requires { (length waiting.now ≡ 256) × (Held (whole self waiting.now) held) }
+        requires { Held (whole self waiting.now) held }
         ensures { result ≡ sound_of (whole self waiting.now) }
     {
         let length = self.length;
@@ -201,13 +176,15 @@ impl Counts {
 
     // Whether `offset` is at most the count, or waits.
     fn is_there(self, waiting: &[u32; 256], offset: u32) -> bool
-        requires { self.span ≤ 256 }
         ensures { result ≡ there_of self.count (table_of (whole self waiting.now)) offset }
     {
         if offset <= self.count {
             return true;
         }
-        waiting::waits_at(waiting, self.span as usize, self.count, offset)
+        let place = (offset - self.count - 1) as usize;
+        self.table(waiting)
+            .get(place)
+            .is_some_and(|entry| *entry != 0)
     }
 
     // What a write of `n` bytes under `number` answers, over a buffer of `size` bytes.
@@ -219,7 +196,7 @@ impl Counts {
         number: SeqNum,
         n: usize,
     ) -> Writing
-        requires { (length waiting.now ≡ 256) × (Held (whole self waiting.now) held) }
+        requires { Held (whole self waiting.now) held }
         ensures { result ≡ answer_of (whole self waiting.now) size number n }
     {
         if !self.is_sound(waiting, held) {
@@ -228,8 +205,7 @@ impl Counts {
         if size != self.length as usize {
             return Writing::Refused(Refusal::OtherLength);
         }
-        let initial = self.initial;
-        let distance = number.offset_from(initial);
+        let distance = number.offset_from(self.initial);
         let offset = distance.0 as u32;
         if self.is_there(waiting, offset) {
             return Writing::AlreadyThere;
@@ -246,29 +222,36 @@ impl Counts {
         Writing::Stored
     }
 
-    // Takes the oldest `n` ready bytes out, moves what stays down, and answers how many are ready
-    // then. Nothing moves where n is 0. The table is lent because the promise speaks of it.
-    fn take(self, waiting: &[u32; 256], held: u64, buf: &mut [u8], out: &mut [u8], n: usize) -> u32
+    // Takes the oldest `n` ready bytes out, moves what stays down, and answers the counts then.
+    // Nothing moves where n is 0. The table is lent because the promise speaks of it.
+    fn take(
+        self,
+        waiting: &[u32; 256],
+        held: u64,
+        buf: &mut [u8],
+        out: &mut [u8],
+        n: usize,
+    ) -> Counts
         requires { (Takes (whole self waiting.now) buf.old out.old n) × (Held (whole self waiting.now) held) }
         ensures { let s = whole self waiting.now in
             let receiver = receiver_of s buf.old in
             let after = read_of receiver n in
-            (state_in self.initial self.length self.count result self.span waiting.now ≡ state_of waiting.now after)
+            (whole result waiting.now ≡ state_of waiting.now after)
             × (buf.new ≡ room_of buf.old after)
             × (out.new ≡ over (take n receiver.ready) out.old) }
     {
         if n == 0 {
-            return self.ready;
+            return self;
         }
-        let left = self.ready - n as u32;
-        bytes::copy(out, 0, buf, n);
-        bytes::move_down(buf, n, left as usize + held as usize);
-        left
+        let ready = self.ready - n as u32;
+        out[..n].copy_from_slice(&buf[..n]);
+        buf.copy_within(n..n + ready as usize + held as usize, 0);
+        Counts { ready, ..self }
     }
 
     // The payload waits past a gap.
     fn kept(self, waiting: &mut [u32; 256], place: usize, n: u32) -> Counts
-        requires { (Placeable (whole self waiting.old) place n) × (0 < place) × (length waiting.old ≡ 256) }
+        requires { (Placeable (whole self waiting.old) place n) × (0 < place) }
         ensures { whole result waiting.new ≡ placed_of (whole self waiting.old) place n }
     {
         let span = self.span as usize;
@@ -276,45 +259,45 @@ impl Counts {
             waiting[place] = n + 1;
             return self;
         }
-        waiting::clear(waiting, span, place - span);
+        waiting[span..place].fill(0);
         waiting[place] = n + 1;
-        let mut counts = self;
-        counts.span = (place + 1) as u32;
-        counts
+        Counts {
+            span: (place + 1) as u32,
+            ..self
+        }
     }
 
     // Place 0 is filled and others wait: they move to ready as far as no gap comes.
     fn moved(self, waiting: &mut [u32; 256], n: u32) -> Counts
-        requires { (Placeable (whole self waiting.old) 0 n) × (0 < self.span) × (length waiting.old ≡ 256) }
+        requires { (Placeable (whole self waiting.old) 0 n) × (0 < self.span) }
         ensures { whole result waiting.new ≡ placed_of (whole self waiting.old) 0 n }
     {
         let span = self.span as usize;
-        let run = 1 + waiting::run_past_first(waiting, span);
-        let bytes = waiting::bytes_in(waiting, run) as u32;
-        waiting::shift_down(waiting, run, span - run);
-        let initial = self.initial;
+        let run = 1 + waiting::run(&waiting[1..span]);
+        let bytes = waiting::bytes_in(&waiting[..run]) as u32;
+        waiting.copy_within(run..span, 0);
         Counts {
-            initial,
-            length: self.length,
             count: self.count + run as u32,
             ready: self.ready + n + bytes,
             span: (span - run) as u32,
+            ..self
         }
     }
 
     // A payload of `n` bytes is stored at `place`, and every next waiting one becomes ready.
     fn placed(self, waiting: &mut [u32; 256], place: usize, n: u32) -> Counts
-        requires { (Placeable (whole self waiting.old) place n) × (length waiting.old ≡ 256) }
+        requires { Placeable (whole self waiting.old) place n }
         ensures { whole result waiting.new ≡ placed_of (whole self waiting.old) place n }
     {
         if place != 0 {
             return self.kept(waiting, place, n);
         }
         if self.span == 0 {
-            let mut counts = self;
-            counts.count = self.count + 1;
-            counts.ready = self.ready + n;
-            return counts;
+            return Counts {
+                count: self.count + 1,
+                ready: self.ready + n,
+                ..self
+            };
         }
         self.moved(waiting, n)
     }
@@ -328,17 +311,15 @@ impl Counts {
         number: SeqNum,
         payload: &[u8],
     ) -> Counts
-        requires { (answer_of (whole self waiting.old) (length buf.old) number (length payload.now) ≡ Writing.Stored) × (length waiting.old ≡ 256) × (Held (whole self waiting.old) held) }
+        requires { (answer_of (whole self waiting.old) (length buf.old) number (length payload.now) ≡ Writing.Stored) × (Held (whole self waiting.old) held) }
         ensures { let s = whole self waiting.old in
             let after = after_write s buf.old number payload.now in
             (whole result waiting.new ≡ state_of waiting.old after)
             × (buf.new ≡ room_of buf.old after) }
     {
-        let initial = self.initial;
-        let offset = number.offset_from(initial);
+        let offset = number.offset_from(self.initial);
         let place = (offset.0 as u32 - self.count - 1) as usize;
-        let span = self.span as usize;
-        let before = waiting::bytes_before(waiting, span, place) as usize;
+        let before = waiting::bytes_before(self.table(waiting), place) as usize;
         bytes::insert(
             buf,
             self.ready as usize + before,
@@ -346,69 +327,6 @@ impl Counts {
             payload,
         );
         self.placed(waiting, place, payload.len() as u32)
-    }
-
-    // Stores `payload` under `number`, if the answer is that; otherwise all stays as it was.
-    fn write(
-        self,
-        waiting: &mut [u32; 256],
-        buf: &mut [u8],
-        number: SeqNum,
-        payload: &[u8],
-    ) -> StepWrite
-        requires { length waiting.old ≡ 256 }
-        ensures { let s = whole self waiting.old in
-            (whole_written result waiting.new ≡ written_of s buf.old number payload.now)
-            × (buf.new ≡ written_room_of s buf.old number payload.now) }
-    {
-        let held = self.held(waiting);
-        let answer = self.writing(waiting, held, buf.len(), number, payload.len());
-        match answer {
-            Writing::Stored => {
-                let counts = self.store(waiting, held, buf, number, payload);
-                StepWrite {
-                    answer: Writing::Stored,
-                    counts,
-                }
-            }
-            Writing::AlreadyThere => StepWrite {
-                answer: Writing::AlreadyThere,
-                counts: self,
-            },
-            Writing::Refused(why) => StepWrite {
-                answer: Writing::Refused(why),
-                counts: self,
-            },
-        }
-    }
-
-    // Reads the oldest ready bytes into `out`, as many as there are and fit.
-    fn read(self, waiting: &[u32; 256], buf: &mut [u8], out: &mut [u8]) -> StepRead
-        requires { length waiting.now ≡ 256 }
-        ensures { let s = whole self waiting.now in
-            (whole_taken self result waiting.now ≡ taken_of s buf.old out.old)
-            × (buf.new ≡ taken_room_of s buf.old out.old)
-            × (out.new ≡ taken_out_of s buf.old out.old) }
-    {
-        let held = self.held(waiting);
-        if !self.is_sound(waiting, held) {
-            return StepRead {
-                answer: Count::Refused(Refusal::NotSound),
-                ready: self.ready,
-            };
-        }
-        if buf.len() != self.length as usize {
-            return StepRead {
-                answer: Count::Refused(Refusal::OtherLength),
-                ready: self.ready,
-            };
-        }
-        let n = smaller(out.len(), self.ready as usize);
-        let ready = self.take(waiting, held, buf, out, n);
-        StepRead {
-            answer: Count::Is(n),
-            ready,
-        }
     }
 
     // `ReceiveBuffer::write` where the table stays in place, and only what changes is written.
@@ -419,35 +337,60 @@ impl Counts {
         buf: &mut [u8],
         number: SeqNum,
         payload: &[u8],
-    ) -> StepWrite
+    ) -> Answered<Writing, Counts>
         ensures { let s = whole self waiting.old in
-            (whole_written result waiting.new ≡ written_of s buf.old number payload.now)
+            (whole_answered result waiting.new ≡ written_of s buf.old number payload.now)
             × (buf.new ≡ written_room_of s buf.old number payload.now) }
     {
-        tell_places(*waiting);
-        self.write(waiting, buf, number, payload)
+        let held = self.held(waiting);
+        let answer = self.writing(waiting, held, buf.len(), number, payload.len());
+        let state = match answer {
+            Writing::Stored => self.store(waiting, held, buf, number, payload),
+            _ => self,
+        };
+        Answered { answer, state }
     }
 
     // `ReceiveBuffer::read` where the table stays in place. Refusals: 19, 18.
-    pub fn read_in(self, waiting: &[u32; 256], buf: &mut [u8], out: &mut [u8]) -> StepRead
+    pub fn read_in(
+        self,
+        waiting: &[u32; 256],
+        buf: &mut [u8],
+        out: &mut [u8],
+    ) -> Answered<Told<usize>, Counts>
         ensures { let s = whole self waiting.now in
-            (whole_taken self result waiting.now ≡ taken_of s buf.old out.old)
+            (whole_answered result waiting.now ≡ taken_of s buf.old out.old)
             × (buf.new ≡ taken_room_of s buf.old out.old)
             × (out.new ≡ taken_out_of s buf.old out.old) }
     {
-        tell_places(*waiting);
-        self.read(waiting, buf, out)
+        let held = self.held(waiting);
+        if !self.is_sound(waiting, held) {
+            return Answered {
+                answer: Told::Refused(Refusal::NotSound),
+                state: self,
+            };
+        }
+        if buf.len() != self.length as usize {
+            return Answered {
+                answer: Told::Refused(Refusal::OtherLength),
+                state: self,
+            };
+        }
+        let n = out.len().min(self.ready as usize);
+        Answered {
+            answer: Told::Is(n),
+            state: self.take(waiting, held, buf, out, n),
+        }
     }
 }
 
 impl ReceiveBuffer {
     // The state apart from its table.
-    fn counts(self) -> Counts
-        ensures { whole result self.waiting ≡ self }
+    fn counts(&self) -> Counts
+        ensures { whole result self.now.waiting ≡ self.now }
     {
-        let initial = self.initial;
         Counts {
-            initial,
+            initial: self.initial,
             length: self.length,
             count: self.count,
             ready: self.ready,
@@ -455,228 +398,186 @@ impl ReceiveBuffer {
         }
     }
 
+    // The state of these counts and this table.
+    fn from_parts(counts: Counts, waiting: [u32; 256]) -> ReceiveBuffer
+        ensures { result ≡ whole counts waiting }
+    {
+        ReceiveBuffer {
+            initial: counts.initial,
+            length: counts.length,
+            count: counts.count,
+            ready: counts.ready,
+            span: counts.span,
+            waiting,
+        }
+    }
+
+    // Nothing in order, nothing ready, nothing waiting.
+    fn fresh(initial: SeqNum, length: u32) -> ReceiveBuffer
+        ensures { result ≡ fresh_of initial length }
+    {
+        ReceiveBuffer {
+            initial,
+            length,
+            count: 0,
+            ready: 0,
+            span: 0,
+            waiting: [0u32; 256],
+        }
+    }
+
+    // The places that the table has.
+    fn table(&self) -> &[u32]
+        ensures { result.now ≡ table_of self.now }
+    {
+        self.counts().table(&self.waiting)
+    }
+
     // Whether the state passes the soundness test.
-    fn is_sound(self) -> bool
-        ensures { result ≡ sound_of self }
+    fn is_sound(&self) -> bool
+        ensures { result ≡ sound_of self.now }
     {
         let counts = self.counts();
         let held = counts.held(&self.waiting);
         counts.is_sound(&self.waiting, held)
     }
 
-    // A receiver for payloads after `initial`, over a buffer of `length` bytes. Refusals: 10.
-    pub fn new(initial: SeqNum, length: usize) -> Created
-        ensures { result ≡ created_of initial length }
+    // What is read of the state, where it is sound.
+    fn told<T: Copy>(&self, value: T) -> Told<T>
+        ensures { result ≡ told_of self.now value }
     {
-        if length < 1 {
-            return refused_new(initial);
-        }
-        if length > 65536 {
-            return refused_new(initial);
-        }
-        let state = ReceiveBuffer {
-            initial,
-            length: length as u32,
-            count: 0,
-            ready: 0,
-            span: 0,
-            waiting: [0u32; 256],
-        };
-        Created {
-            answer: Creation::Made,
-            state,
+        if self.is_sound() {
+            Told::Is(value)
+        } else {
+            Told::Refused(Refusal::NotSound)
         }
     }
 
-    // Stores `payload` under `number`, and moves every next waiting payload to ready. A number that is
-    // already there changes nothing. Refusals: 19, 18, 15, 16, 17.
-    pub fn write(self, buf: &mut [u8], number: SeqNum, payload: &[u8]) -> Written
+    // A receiver for payloads after `initial`, over a buffer of `length` bytes. Refusals: 10.
+    pub fn new(initial: SeqNum, length: usize) -> Answered<Creation, ReceiveBuffer>
+        ensures { result ≡ created_of initial length }
+    {
+        if length < 1 || length > 65536 {
+            return Answered {
+                answer: Creation::Refused(Refusal::BadSetting),
+                state: ReceiveBuffer::fresh(initial, 0),
+            };
+        }
+        Answered {
+            answer: Creation::Made,
+            state: ReceiveBuffer::fresh(initial, length as u32),
+        }
+    }
+
+    // Stores `payload` under `number`, and moves every next waiting payload to ready. A number that
+    // is already there changes nothing. Refusals: 19, 18, 15, 16, 17.
+    pub fn write(
+        self,
+        buf: &mut [u8],
+        number: SeqNum,
+        payload: &[u8],
+    ) -> Answered<Writing, ReceiveBuffer>
         ensures { (result ≡ written_of self buf.old number payload.now) × (buf.new ≡ written_room_of self buf.old number payload.now) }
     {
-        let counts = self.counts();
         let mut waiting = self.waiting;
-        let step = counts.write(&mut waiting, buf, number, payload);
-        let answer = step.answer;
-        let after = step.counts;
-        let initial = after.initial;
-        let state = ReceiveBuffer {
-            initial,
-            length: after.length,
-            count: after.count,
-            ready: after.ready,
-            span: after.span,
-            waiting,
-        };
-        Written { answer, state }
+        let step = self.counts().write_in(&mut waiting, buf, number, payload);
+        Answered {
+            answer: step.answer,
+            state: ReceiveBuffer::from_parts(step.state, waiting),
+        }
     }
 
     // Reads the oldest ready bytes into `out`, as many as there are and fit. Refusals: 19, 18.
-    pub fn read(self, buf: &mut [u8], out: &mut [u8]) -> Taken
+    pub fn read(self, buf: &mut [u8], out: &mut [u8]) -> Answered<Told<usize>, ReceiveBuffer>
         ensures { (result ≡ taken_of self buf.old out.old) × (buf.new ≡ taken_room_of self buf.old out.old) × (out.new ≡ taken_out_of self buf.old out.old) }
     {
-        let counts = self.counts();
-        let step = counts.read(&self.waiting, buf, out);
-        let answer = step.answer;
-        let mut state = self;
-        state.ready = step.ready;
-        Taken { answer, state }
+        let step = self.counts().read_in(&self.waiting, buf, out);
+        Answered {
+            answer: step.answer,
+            state: ReceiveBuffer::from_parts(step.state, self.waiting),
+        }
     }
 
     // How many bytes more the buffer can hold. Refusals: 19.
-    pub fn available(self) -> Count
-        ensures { result ≡ counted_of self (free_of self.length self.ready (table_of self)) }
+    pub fn available(self) -> Told<usize>
+        ensures { result ≡ told_of self (free_of self.length self.ready (table_of self)) }
     {
-        if self.is_sound() {
-            let held = waiting::bytes_in(&self.waiting, self.span as usize);
-            Count::Is(((self.length - self.ready) as u64 - held) as usize)
-        } else {
-            Count::Refused(Refusal::NotSound)
-        }
+        let free = self.length.saturating_sub(self.ready) as u64;
+        self.told(free.saturating_sub(waiting::bytes_in(self.table())) as usize)
     }
 
     // Whether no byte is ready and nothing waits. Refusals: 19.
-    pub fn is_empty(self) -> Truth
+    pub fn is_empty(self) -> Told<bool>
         ensures { result ≡ told_of self (empty_of self) }
     {
-        if self.is_sound() {
-            let held = waiting::how_many(&self.waiting, self.span as usize);
-            Truth::Is(self.ready == 0 && held == 0)
-        } else {
-            Truth::Refused(Refusal::NotSound)
-        }
+        self.told(self.ready == 0 && waiting::how_many(self.table()) == 0)
     }
 
     // The number before the first payload's. Refusals: 19.
-    pub fn init_seq_num(self) -> Number
-        ensures { result ≡ numbered_of self self.initial }
+    pub fn init_seq_num(self) -> Told<SeqNum>
+        ensures { result ≡ told_of self self.initial }
     {
-        if self.is_sound() {
-            let initial = self.initial;
-            Number::Is(initial)
-        } else {
-            Number::Refused(Refusal::NotSound)
-        }
+        self.told(self.initial)
     }
 
     // Whether the payload of `number` is already there. Refusals: 19.
-    pub fn was_written(self, number: SeqNum) -> Truth
+    pub fn was_written(self, number: SeqNum) -> Told<bool>
         ensures { result ≡ told_of self (written_before self number) }
     {
-        if self.is_sound() {
-            let initial = self.initial;
-            let offset = number.offset_from(initial);
-            let counts = self.counts();
-            Truth::Is(counts.is_there(&self.waiting, offset.0 as u32))
-        } else {
-            Truth::Refused(Refusal::NotSound)
-        }
+        let offset = number.offset_from(self.initial);
+        self.told(self.counts().is_there(&self.waiting, offset.0 as u32))
     }
 
     // The last number of the payloads in order. Refusals: 19.
-    pub fn ack_num(self) -> Number
-        ensures { result ≡ numbered_of self (ack_of self) }
+    pub fn ack_num(self) -> Told<SeqNum>
+        ensures { result ≡ told_of self (ack_of self) }
     {
-        if self.is_sound() {
-            let initial = self.initial;
-            Number::Is(initial.at(self.count))
-        } else {
-            Number::Refused(Refusal::NotSound)
-        }
+        self.told(self.initial.at(self.count))
     }
 
-    // Writes the selective ACK into `room` and answers its length: 0, which means none, with nothing
-    // waiting. Refusals: 19, 9.
-    pub fn selective_ack(self, room: &mut [u8]) -> Count
+    // Writes the selective ACK into `room` and answers its length: 0, which means none, with
+    // nothing waiting. Refusals: 19, 9.
+    // (0 and no Option: document 01, "an empty SACK means none".)
+    pub fn selective_ack(self, room: &mut [u8]) -> Told<usize>
         ensures { (result ≡ acked_of self (length room.old)) × (room.new ≡ acked_room_of self room.old) }
     {
         if !self.is_sound() {
-            return Count::Refused(Refusal::NotSound);
+            return Told::Refused(Refusal::NotSound);
         }
-        let span = self.span as usize;
-        let n = sack::length_for(span);
+        let table = self.table();
+        let n = sack::length_for(table);
         if n > room.len() {
-            return Count::Refused(Refusal::NoRoom);
+            return Told::Refused(Refusal::NoRoom);
         }
-        let initial = self.initial;
-        let ack = initial.at(self.count);
-        sack::fill(&self.waiting, span, ack, room, n);
-        Count::Is(n)
+        sack::fill(table, self.initial.at(self.count), &mut room[..n]);
+        Told::Is(n)
     }
 
     // How many payloads are in order: document 01's c. Refusals: 19.
-    pub fn count(self) -> Count
-        ensures { result ≡ counted_of self self.count }
+    pub fn count(self) -> Told<usize>
+        ensures { result ≡ told_of self self.count }
     {
-        if self.is_sound() {
-            Count::Is(self.count as usize)
-        } else {
-            Count::Refused(Refusal::NotSound)
-        }
+        self.told(self.count as usize)
     }
 
     // How many bytes are ready. Refusals: 19.
-    pub fn ready(self) -> Count
-        ensures { result ≡ counted_of self self.ready }
+    pub fn ready(self) -> Told<usize>
+        ensures { result ≡ told_of self self.ready }
     {
-        if self.is_sound() {
-            Count::Is(self.ready as usize)
-        } else {
-            Count::Refused(Refusal::NotSound)
-        }
+        self.told(self.ready as usize)
     }
 
     // How many payloads wait. Refusals: 19.
-    pub fn waiting(self) -> Count
-        ensures { result ≡ counted_of self (how_many (table_of self)) }
+    pub fn waiting(self) -> Told<usize>
+        ensures { result ≡ told_of self (how_many (table_of self)) }
     {
-        if self.is_sound() {
-            Count::Is(waiting::how_many(&self.waiting, self.span as usize))
-        } else {
-            Count::Refused(Refusal::NotSound)
-        }
+        self.told(waiting::how_many(self.table()))
     }
 
     // How many bytes wait. Refusals: 19.
-    pub fn waiting_bytes(self) -> Count
-        ensures { result ≡ counted_of self (bytes_in (table_of self)) }
+    pub fn waiting_bytes(self) -> Told<usize>
+        ensures { result ≡ told_of self (bytes_in (table_of self)) }
     {
-        if self.is_sound() {
-            Count::Is(waiting::bytes_in(&self.waiting, self.span as usize) as usize)
-        } else {
-            Count::Refused(Refusal::NotSound)
-        }
-    }
-}
-
-// Tells of a table by value that it has 256 places. Nothing is done.
-fn tell_places(table: [u32; 256])
-    ensures { length table ≡ 256 }
-{}
-
-// The smaller of two numbers.
-fn smaller(a: usize, b: usize) -> usize
-    ensures { result ≡ min a b }
-{
-    if a < b {
-        return a;
-    }
-    b
-}
-
-// The answer 10.
-fn refused_new(initial: SeqNum) -> Created
-    ensures { result ≡ no_receiver_of initial }
-{
-    let state = ReceiveBuffer {
-        initial,
-        length: 0,
-        count: 0,
-        ready: 0,
-        span: 0,
-        waiting: [0u32; 256],
-    };
-    Created {
-        answer: Creation::Refused(Refusal::BadSetting),
-        state,
+        self.told(waiting::bytes_in(self.table()) as usize)
     }
 }

@@ -1,82 +1,54 @@
-// The events of a session, each a record of the list (oracle/README.md). Each takes its input from the
-// record, calls the receiver, and holds what it answers against the record.
+// The events of a session, each a record of the list (oracle/README.md). Each takes its input from
+// the record, calls the receiver, and holds what it answers against the record.
 ghost use Rattle.std.specs.Prelude.{◌≤◌};
 
-use list::{behind, behind_part, fill, four, holds, number, part, tells, two};
-use recv::{Count, Number, ReceiveBuffer, Truth, Writing};
+use crate::kind::{Kind, UnknownKind};
+use list::{behind, behind_part, fill, four, holds, number, part, two};
+use recv::{ReceiveBuffer, Refusal, Told, Writing};
 use report::text::front;
 use seq::SeqNum;
 
-// The receiver after an event, and whether all that it answered is as recorded.
-#[derive(Clone, Copy)]
-pub struct Step {
-    pub state: ReceiveBuffer,
-    pub is_same: bool,
-}
-
-// An answer's number and its value.
-#[derive(Clone, Copy)]
-struct Answer {
-    number: u64,
-    value: u64,
-}
-
-fn of_writing(writing: Writing) -> Answer {
+// What the calls answer: a write whether the payload was already there.
+fn of_writing(writing: Writing) -> Result<u64, Refusal> {
     match writing {
-        Writing::Stored => Answer {
-            number: 0,
-            value: 0,
-        },
-        Writing::AlreadyThere => Answer {
-            number: 0,
-            value: 1,
-        },
-        Writing::Refused(refusal) => Answer {
-            number: refusal.number() as u64,
-            value: 0,
-        },
+        Writing::Stored => Ok(0),
+        Writing::AlreadyThere => Ok(1),
+        Writing::Refused(refusal) => Err(refusal),
     }
 }
 
-fn of_count(count: Count) -> Answer {
-    match count {
-        Count::Is(n) => Answer {
-            number: 0,
-            value: n as u64,
-        },
-        Count::Refused(refusal) => Answer {
-            number: refusal.number() as u64,
-            value: 0,
-        },
+// (No From in the port: document 01 wants its own enums there in place of Result.)
+fn given<T>(told: Told<T>) -> Result<T, Refusal> {
+    match told {
+        Told::Is(value) => Ok(value),
+        Told::Refused(refusal) => Err(refusal),
     }
 }
 
-// The value, or one that no list has.
-fn counted(count: Count) -> u64 {
-    match count {
-        Count::Is(n) => n as u64,
-        Count::Refused(_) => u64::MAX,
+// (Three and no trait: each widens another type, in its one line.)
+fn of_count(count: Told<usize>) -> Result<u64, Refusal> {
+    Ok(given(count)? as u64)
+}
+
+fn of_truth(truth: Told<bool>) -> Result<u64, Refusal> {
+    Ok(u64::from(given(truth)?))
+}
+
+fn of_number(number: Told<SeqNum>) -> Result<u64, Refusal> {
+    Ok(u64::from(given(number)?.0))
+}
+
+// Is the answer the recorded one, by its number and its value, which is 0 for a refusal?
+fn is_answer(answer: Result<u64, Refusal>, number: u64, value: u64) -> bool {
+    match answer {
+        Ok(n) => (number, value) == (0, n),
+        Err(refusal) => (number, value) == (refusal.number() as u64, 0),
     }
 }
 
-fn told(truth: Truth) -> u64 {
-    match truth {
-        Truth::Is(true_or_not) => true_or_not as u64,
-        Truth::Refused(_) => u64::MAX,
-    }
-}
-
-fn numbered(number: Number) -> u64 {
-    match number {
-        Number::Is(n) => n.0 as u64,
-        Number::Refused(_) => u64::MAX,
-    }
-}
-
-// The event's kind, 1 to 5. A kind that there is not counts as a run, and differs.
-pub(crate) fn kind_of(event: &[u8]) -> u64 {
-    let kind = number(event, 0, 1);
-    if kind == 0 || kind > 5 { 5 } else { kind }
+// Is it answered, with the recorded value?
+fn is_told(answer: Result<u64, Refusal>, value: u64) -> bool {
+    answer.is_ok_and(|n| n == value)
 }
 
 // How many bytes were read.
@@ -87,168 +59,148 @@ fn read_len(event: &[u8]) -> usize
 }
 
 // How many bytes the event has.
-pub(crate) fn size_of(event: &[u8]) -> usize {
-    match kind_of(event) {
-        1 => 12 + two(event, 3) as usize,
-        2 => 15 + read_len(event),
-        3 => 9 + two(event, 7) as usize,
-        4 => 23,
-        _ => 7,
+fn size_of(kind: Kind, event: &[u8]) -> usize {
+    match kind {
+        Kind::Write => 12 + two(event, 3) as usize,
+        Kind::Read => 15 + read_len(event),
+        Kind::Ack => 9 + two(event, 7) as usize,
+        Kind::Ask => 23,
+        Kind::Run => 7,
     }
 }
 
 // The recorded answer.
-pub(crate) fn answer_of(event: &[u8]) -> u64 {
-    match kind_of(event) {
-        1 => number(behind_part(behind(event, 3)), 0, 1),
-        2 => number(event, 5, 1),
-        _ => number(event, 3, 1),
+fn answer_of(kind: Kind, event: &[u8]) -> u64 {
+    match kind {
+        Kind::Write => number(behind_part(behind(event, 3)), 0, 1),
+        Kind::Read => number(event, 5, 1),
+        Kind::Ack | Kind::Ask | Kind::Run => number(event, 3, 1),
     }
 }
 
-// Behind a write's payload: answer, source, already there, available.
-fn is_written(state: ReceiveBuffer, writing: Writing, seen: &[u8]) -> bool {
-    let answer = of_writing(writing);
-    let is_equal = tells(seen, 0, 1, answer.number) & tells(seen, 2, 1, answer.value);
-    is_equal & tells(seen, 3, 4, counted(state.available()))
+// What comparing an event tells: its kind, how many bytes it has, the answer that it records, and
+// whether all that the receiver answered is as recorded.
+#[derive(Clone, Copy)]
+pub(crate) struct Compared {
+    pub kind: Kind,
+    pub size: usize,
+    pub answer: u64,
+    pub is_same: bool,
 }
 
-// Kind 1: number, payload.
-fn write(state: ReceiveBuffer, event: &[u8], buf: &mut [u8]) -> Step {
-    let payload = behind(event, 3);
-    let written = state.write(buf, SeqNum(two(event, 1)), part(payload));
-    let state = written.state;
-    let writing = written.answer;
-    Step {
-        state,
-        is_same: is_written(state, writing, behind_part(payload)),
-    }
+// A receiver, with the buffer that is lent to it, and room for what it is asked for.
+#[derive(Drop)]
+pub(crate) struct Receiver<'a, 'b> {
+    pub state: ReceiveBuffer,
+    pub buffer: &'a mut [u8],
+    pub room: &'b mut [u8],
 }
 
-// Behind a read's output length: answer, source, count and that many bytes, available.
-fn is_read(state: ReceiveBuffer, answer: Answer, event: &[u8], out: &[u8]) -> bool {
-    let len = read_len(event);
-    let is_equal = tells(event, 5, 1, answer.number) & tells(event, 7, 4, answer.value);
-    let is_held = holds(out, front(behind(event, 11), len));
-    is_equal & is_held & tells(event, 11 + len, 4, counted(state.available()))
-}
-
-fn read_into(state: ReceiveBuffer, event: &[u8], buf: &mut [u8], out: &mut [u8]) -> Step {
-    fill(out);
-    let taken = state.read(buf, out);
-    let state = taken.state;
-    let count = taken.answer;
-    Step {
-        state,
-        is_same: is_read(state, of_count(count), event, out),
-    }
-}
-
-// Kind 2: as many bytes as the output holds. It lends an output of just the length asked for.
-fn read(state: ReceiveBuffer, event: &[u8], buf: &mut [u8], out: &mut [u8]) -> Step {
-    let room = four(event, 1) as usize;
-    if room <= out.len() {
-        read_into(state, event, buf, &mut out[..room])
-    } else {
-        Step {
-            state,
-            is_same: false,
+impl Receiver<'_, '_> {
+    // Does what the first event of these bytes says, and compares. An event of a kind that there is
+    // not counts as a run, and differs, as one does that is cut off.
+    pub fn compare(&mut self, event: &[u8]) -> Compared {
+        let (kind, is_same) = match Kind::try_from(number(event, 0, 1)) {
+            Ok(kind) => (kind, self.is_same(kind, event)),
+            Err(UnknownKind) => (Kind::Run, false),
+        };
+        let size = size_of(kind, event);
+        Compared {
+            kind,
+            size,
+            answer: answer_of(kind, event),
+            is_same: is_same && size <= event.len(),
         }
     }
-}
 
-// Behind the room for a SACK: answer, source, ack number, the SACK's length and bytes.
-fn is_acked_into(state: ReceiveBuffer, event: &[u8], out: &mut [u8]) -> bool {
-    fill(out);
-    let count = state.selective_ack(out);
-    let answer = of_count(count);
-    let is_equal = tells(event, 3, 1, answer.number) & tells(event, 7, 2, answer.value);
-    let is_held = holds(out, part(behind(event, 7)));
-    is_equal & is_held & tells(event, 5, 2, numbered(state.ack_num()))
-}
-
-// Kind 3: the ack number and the selective ACK. It lends room of just the length asked for.
-fn is_acked(state: ReceiveBuffer, event: &[u8], out: &mut [u8]) -> bool {
-    let room = two(event, 1) as usize;
-    if room <= out.len() {
-        is_acked_into(state, event, &mut out[..room])
-    } else {
-        false
+    fn is_same(&mut self, kind: Kind, event: &[u8]) -> bool {
+        match kind {
+            Kind::Write => self.write(event),
+            Kind::Read => self.read(event),
+            Kind::Ack => self.ack(event),
+            Kind::Ask => self.ask(event),
+            Kind::Run => self.run(event),
+        }
     }
-}
 
-// Kind 4, what a caller may ask: number, answer, source, was it written, is it empty, available, ready,
-// waiting bytes, waiting payloads, c.
-fn is_told(state: ReceiveBuffer, event: &[u8]) -> bool {
-    let number = SeqNum(two(event, 1));
-    tells(event, 3, 1, 0)
-        & tells(event, 5, 1, told(state.was_written(number)))
-        & tells(event, 6, 1, told(state.is_empty()))
-        & tells(event, 7, 4, counted(state.available()))
-        & tells(event, 11, 4, counted(state.ready()))
-        & tells(event, 15, 4, counted(state.waiting_bytes()))
-        & tells(event, 19, 2, counted(state.waiting()))
-        & tells(event, 21, 2, counted(state.count()))
-}
-
-// A write of the next number in order, with an empty payload.
-fn write_next(step: Step, buf: &mut [u8]) -> Step {
-    let state = step.state;
-    let last = SeqNum((numbered(state.ack_num()) % 65536) as u16);
-    let written = state.write(buf, last.plus(1), b"");
-    let after = written.state;
-    let writing = written.answer;
-    Step {
-        state: after,
-        is_same: step.is_same & is_stored(writing),
+    // Number, payload; behind the payload answer, source, already there, available.
+    fn write(&mut self, event: &[u8]) -> bool {
+        let payload = behind(event, 3);
+        let seen = behind_part(payload);
+        let seq_num = SeqNum(two(event, 1));
+        let written = self.state.write(self.buffer, seq_num, part(payload));
+        self.state = written.state;
+        is_answer(
+            of_writing(written.answer),
+            number(seen, 0, 1),
+            number(seen, 2, 1),
+        ) && is_told(of_count(self.state.available()), number(seen, 3, 4))
     }
-}
 
-fn is_stored(writing: Writing) -> bool {
-    match writing {
-        Writing::Stored => true,
-        Writing::AlreadyThere => false,
-        Writing::Refused(_) => false,
+    // As many bytes are read as the output holds. An output of just the length asked for is lent.
+    // Behind the length: answer, source, count and that many bytes, available.
+    fn read(&mut self, event: &[u8]) -> bool {
+        let Some(out) = self.room.get_mut(..four(event, 1) as usize) else {
+            return false;
+        };
+        fill(out);
+        let taken = self.state.read(self.buffer, out);
+        self.state = taken.state;
+        let len = read_len(event);
+        is_answer(
+            of_count(taken.answer),
+            number(event, 5, 1),
+            number(event, 7, 4),
+        ) && holds(out, front(behind(event, 11), len))
+            && is_told(of_count(self.state.available()), number(event, 11 + len, 4))
     }
-}
 
-fn write_run(start: Step, buf: &mut [u8], count: u16) -> Step {
-    let mut step = start;
-    for _ in 0..count {
-        step = write_next(step, buf);
+    // The ack number and the selective ACK. Room of just the length asked for is lent. Behind the
+    // room for the SACK: answer, source, ack number, the SACK's length and bytes.
+    fn ack(&mut self, event: &[u8]) -> bool {
+        let Some(out) = self.room.get_mut(..two(event, 1) as usize) else {
+            return false;
+        };
+        fill(out);
+        let count = self.state.selective_ack(out);
+        is_answer(of_count(count), number(event, 3, 1), number(event, 7, 2))
+            && holds(out, part(behind(event, 7)))
+            && is_told(of_number(self.state.ack_num()), number(event, 5, 2))
     }
-    step
-}
 
-// Kind 5: count, answer, source, c. So many such writes in a row.
-fn run(state: ReceiveBuffer, event: &[u8], buf: &mut [u8]) -> Step {
-    let is_same = tells(event, 3, 1, 0);
-    let step = write_run(Step { state, is_same }, buf, two(event, 1));
-    let after = step.state;
-    Step {
-        state: after,
-        is_same: step.is_same & tells(event, 5, 2, counted(after.count())),
+    // What a caller may ask: number, answer, source, was it written, is it empty, available, ready,
+    // waiting bytes, waiting payloads, c.
+    fn ask(&self, event: &[u8]) -> bool {
+        let state = &self.state;
+        let was_written = state.was_written(SeqNum(two(event, 1)));
+        number(event, 3, 1) == 0
+            && is_told(of_truth(was_written), number(event, 5, 1))
+            && is_told(of_truth(state.is_empty()), number(event, 6, 1))
+            && is_told(of_count(state.available()), number(event, 7, 4))
+            && is_told(of_count(state.ready()), number(event, 11, 4))
+            && is_told(of_count(state.waiting_bytes()), number(event, 15, 4))
+            && is_told(of_count(state.waiting()), number(event, 19, 2))
+            && is_told(of_count(state.count()), number(event, 21, 2))
     }
-}
 
-// The kinds that change nothing. A kind that there is not differs.
-fn is_answered(state: ReceiveBuffer, event: &[u8], out: &mut [u8]) -> bool {
-    match number(event, 0, 1) {
-        3 => is_acked(state, event, out),
-        4 => is_told(state, event),
-        _ => false,
+    // Count, answer, source, c. So many writes in a row of the next number in order.
+    fn run(&mut self, event: &[u8]) -> bool {
+        let mut is_stored = true;
+        for _ in 0..two(event, 1) {
+            is_stored &= self.write_next();
+        }
+        is_stored
+            && number(event, 3, 1) == 0
+            && is_told(of_count(self.state.count()), number(event, 5, 2))
     }
-}
 
-// Does what the event says, and compares.
-pub(crate) fn compare(state: ReceiveBuffer, event: &[u8], buf: &mut [u8], out: &mut [u8]) -> Step {
-    match number(event, 0, 1) {
-        1 => write(state, event, buf),
-        2 => read(state, event, buf, out),
-        5 => run(state, event, buf),
-        _ => Step {
-            state,
-            is_same: is_answered(state, event, out),
-        },
+    // Is an empty payload stored under the next number in order?
+    fn write_next(&mut self) -> bool {
+        let Told::Is(last) = self.state.ack_num() else {
+            return false;
+        };
+        let written = self.state.write(self.buffer, last.plus(1), b"");
+        self.state = written.state;
+        matches!(written.answer, Writing::Stored)
     }
 }

@@ -1,89 +1,49 @@
-// Sessions: the buffer's length, the initial number, the answer to its making, a count of events, the
-// events. The buffer that is lent has just the length of the session. A replay counts the events of one
-// kind, or for kind 0 the sessions.
-use crate::event::{Step, answer_of, compare, kind_of, size_of};
-use list::{behind, four, number, tells, two};
+// Sessions: the buffer's length, the initial number, the answer to its making, a count of events,
+// the events. The buffer that is lent has just the length of the session.
+use crate::event::{Compared, Receiver};
+use crate::kind::Kind;
+use list::{behind, four, number, two};
 use recv::{Creation, ReceiveBuffer};
 use report::tally::Tally;
 use seq::SeqNum;
-use std::num::wrapping_add_usize;
 
-// What is counted, and the place in the list.
-#[derive(Clone, Copy)]
-struct Stand {
-    tally: Tally,
-    at: usize,
+// What is counted: the sessions, and the events of each kind.
+#[derive(Drop)]
+pub(crate) struct Tallies {
+    pub sessions: Tally,
+    pub writes: Tally,
+    pub reads: Tally,
+    pub acks: Tally,
+    pub asks: Tally,
+    pub runs: Tally,
 }
 
-// The stand behind a record of so many bytes, which is counted if it is of the kind.
-fn behind_record(stand: Stand, size: usize, is_of: bool, answer: u64, is_same: bool) -> Stand {
-    let tally = stand.tally;
-    let at = wrapping_add_usize(stand.at, size);
-    if is_of {
-        Stand {
-            tally: tally.counted(answer, is_same),
-            at,
+impl Tallies {
+    fn new() -> Self {
+        Self {
+            sessions: Tally::new(),
+            writes: Tally::new(),
+            reads: Tally::new(),
+            acks: Tally::new(),
+            asks: Tally::new(),
+            runs: Tally::new(),
         }
-    } else {
-        Stand { tally, at }
+    }
+
+    // One event more.
+    fn count(&mut self, event: Compared) {
+        let tally = match event.kind {
+            Kind::Write => &mut self.writes,
+            Kind::Read => &mut self.reads,
+            Kind::Ack => &mut self.acks,
+            Kind::Ask => &mut self.asks,
+            Kind::Run => &mut self.runs,
+        };
+        *tally = tally.counted(event.answer, event.is_same);
     }
 }
 
-fn behind_event(stand: Stand, list: &[u8], kind: u64, is_same: bool) -> Stand {
-    let event = behind(list, stand.at);
-    let size = size_of(event);
-    let is_whole = size <= event.len();
-    let is_of = kind_of(event) == kind;
-    behind_record(stand, size, is_of, answer_of(event), is_same & is_whole)
-}
-
-fn compare_at(
-    state: ReceiveBuffer,
-    list: &[u8],
-    at: usize,
-    buf: &mut [u8],
-    out: &mut [u8],
-) -> Step {
-    compare(state, behind(list, at), buf, out)
-}
-
-fn all_events(
-    start: ReceiveBuffer,
-    stand: Stand,
-    list: &[u8],
-    kind: u64,
-    buf: &mut [u8],
-    out: &mut [u8],
-    count: u32,
-) -> Stand {
-    let mut state = start;
-    let mut stand = stand;
-    for _ in 0..count {
-        let step = compare_at(state, list, stand.at, buf, out);
-        state = step.state;
-        stand = behind_event(stand, list, kind, step.is_same);
-    }
-    stand
-}
-
-// Runs the events over the first `length` bytes of the buffer.
-fn over(
-    state: ReceiveBuffer,
-    stand: Stand,
-    list: &[u8],
-    kind: u64,
-    buffer: &mut [u8],
-    out: &mut [u8],
-    length: usize,
-    count: u32,
-) -> Stand {
-    if length <= buffer.len() {
-        all_events(state, stand, list, kind, &mut buffer[..length], out, count)
-    } else {
-        stand
-    }
-}
-
+// The answer's number, as the recorded list has it.
 fn number_of(creation: Creation) -> u64 {
     match creation {
         Creation::Made => 0,
@@ -91,44 +51,49 @@ fn number_of(creation: Creation) -> u64 {
     }
 }
 
-fn behind_head(stand: Stand, kind: u64, head: &[u8], answer: Creation) -> Stand {
-    let is_same = tells(head, 6, 1, number_of(answer));
-    let is_whole = 11 <= head.len();
-    behind_record(stand, 11, kind == 0, number(head, 6, 1), is_same & is_whole)
-}
+// A list has no more events than bytes: past its end each event differs.
+const MOST_EVENTS: u32 = 1048576;
 
-// The count of events, or more than a list has bytes: past its end each event differs.
-fn turns(head: &[u8]) -> u32 {
-    let count = four(head, 7);
-    if count < 1048576 { count } else { 1048576 }
-}
-
-fn session(stand: Stand, list: &[u8], kind: u64, buffer: &mut [u8], out: &mut [u8]) -> Stand {
-    let head = behind(list, stand.at);
-    let length = four(head, 0) as usize;
-    let created = ReceiveBuffer::new(SeqNum(two(head, 4)), length);
-    let state = created.state;
-    let answer = created.answer;
-    let begun = behind_head(stand, kind, head, answer);
-    over(state, begun, list, kind, buffer, out, length, turns(head))
-}
-
-fn replay_all(list: &[u8], kind: u64, buffer: &mut [u8], out: &mut [u8]) -> Tally {
-    let mut stand = Stand {
-        tally: Tally::new(),
-        at: 0,
+// Replays the first session of a list, and answers what stands behind it.
+fn replay_first<'a>(
+    tallies: &mut Tallies,
+    list: &'a [u8],
+    buffer: &mut [u8],
+    room: &mut [u8],
+) -> &'a [u8] {
+    let length = four(list, 0) as usize;
+    let answer = number(list, 6, 1);
+    let created = ReceiveBuffer::new(SeqNum(two(list, 4)), length);
+    let is_same = answer == number_of(created.answer) && 11 <= list.len();
+    tallies.sessions = tallies.sessions.counted(answer, is_same);
+    let mut rest = behind(list, 11);
+    let Some(buffer) = buffer.get_mut(..length) else {
+        return rest;
     };
-    for _ in 0..u64::MAX {
-        if stand.at >= list.len() {
-            return stand.tally;
-        }
-        stand = session(stand, list, kind, buffer, out);
+    let mut receiver = Receiver {
+        state: created.state,
+        buffer,
+        room,
+    };
+    for _ in 0..four(list, 7).min(MOST_EVENTS) {
+        let event = receiver.compare(rest);
+        tallies.count(event);
+        rest = behind(rest, event.size);
     }
-    stand.tally
+    rest
 }
 
-pub(crate) fn replay(list: &[u8], kind: u64) -> Tally {
+// Replays the sessions of a list, which have a byte or more.
+pub(crate) fn replay(list: &[u8]) -> Tallies {
     let mut buffer = io::large_buffer();
-    let mut out = io::large_buffer();
-    replay_all(list, kind, &mut buffer, &mut out)
+    let mut room = io::large_buffer();
+    let mut tallies = Tallies::new();
+    let mut rest = list;
+    for _ in 0..list.len() {
+        if rest.is_empty() {
+            break;
+        }
+        rest = replay_first(&mut tallies, rest, &mut buffer, &mut room);
+    }
+    tallies
 }

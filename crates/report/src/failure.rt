@@ -1,44 +1,32 @@
 // Saying on standard error what could not be done, and why.
-use crate::text::{front, put_bytes};
-use std::fmt;
+ghost use Rattle.std.specs.Prelude.{◌≡◌};
+ghost use Rattle.std.specs.Process.{exit_status};
+
+use arrayvec::ArrayString;
 use std::fmt::Write;
 use std::io::Error;
-use std::str::from_utf8;
+use std::process::ExitCode;
 
-// An error's text. What does not fit is left out.
-#[derive(Drop)]
-struct Words {
-    room: [u8; 256],
-    used: usize,
-}
-
-impl Write for Words {
-    fn write_str(&mut self, s: &str) -> fmt::Result {
-        self.used = put_bytes(&mut self.room, self.used, s.as_bytes());
-        Ok(())
-    }
-}
-
-impl Words {
-    // The system's own words, without the number that `Error` puts behind them.
-    fn reason(&self) -> &str {
-        match from_utf8(front(&self.room, self.used)) {
-            Ok(text) => match text.split_once(" (os error ") {
-                Some((words, _)) => words,
-                None => text,
-            },
-            Err(_) => "",
-        }
+// The system's own words, without the number that `Error` puts behind them.
+fn reason(text: &str) -> &str {
+    match text.split_once(" (os error ") {
+        Some((words, _)) => words,
+        None => text,
     }
 }
 
 // Says in a line what failed, as the caller names it, and why.
 pub fn fail(rt: &impl Eprint, what: &str, error: &Error) {
-    let mut words = Words {
-        room: [0; 256],
-        used: 0,
-    };
+    let mut words = ArrayString::<256>::new();
     let _ = write!(words, "{error}");
-    let reason = words.reason();
+    let reason = reason(words.as_str());
     let _ = eprintln!(rt; "{what}: {reason}");
+}
+
+// Says what failed and why. The status is 1.
+pub fn failed(rt: &impl Eprint, what: &str, error: &Error) -> ExitCode
+    ensures { exit_status result ≡ 1 }
+{
+    fail(rt, what, error);
+    ExitCode::FAILURE
 }

@@ -1,8 +1,9 @@
-// What the programs print: words and numbers in a buffer that the caller lends, a tally of cases, and what
-// failed.
+// What the programs print: a tally of cases, what failed, and the front of a buffer. And what they
+// read.
 
 #![tactic(auto)]
 
 pub mod failure;
+pub mod input;
 pub mod tally;
 pub mod text;

@@ -1,4 +1,4 @@
--- What is shown of every exported function, and the states that the walks of crates/walks are over.
+-- What is shown of every exported function, and how a struct behind a pointer lies in memory.
 pub mod Exported
 pub mod Promises
 pub mod States

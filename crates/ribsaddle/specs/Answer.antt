@@ -13,8 +13,7 @@ part_or f old (done a) = f a
 part_or f old (refused n) = old
 
 abbrev pub value_or : ℕ → Answer ℕ → ℕ
-value_or old (done n) = n
-value_or old (refused n) = old
+value_or = part_or (λ n. n)
 
 -- A truth is 1 or 0.
 abbrev pub bit_of : Bool → ℕ

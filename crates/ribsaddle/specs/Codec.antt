@@ -10,7 +10,6 @@ use Rattle.packet.specs.declared.decode.Packet.{Packet}
 use Rattle.ribsaddle.specs.Answer.{value_or}
 use Rattle.ribsaddle.specs.declared.codec.HeaderFields.{HeaderFields}
 use Rattle.ribsaddle.specs.declared.codec.PacketFields.{PacketFields}
-use Rattle.ribsaddle.specs.declared.codec.Reading.{Reading}
 
 -- ---- fields and headers
 
@@ -49,6 +48,11 @@ header_from type f =
     }
 
 -- ---- reading: the parts of what was decoded, or what stood there
+
+-- The answer's number, and what then stands where the packet goes.
+pub record Reading : Type 0 where
+  pub answer : ℕ
+  pub packet : PacketFields
 
 abbrev pub read_as : PacketFields → Answer Packet → Reading
 read_as old (done p) = record { answer = 0; packet = parts_of p }

@@ -11,25 +11,22 @@ use Rattle.outgoing.specs.declared.answer.LostPacket.{LostPacket}
 use Rattle.outgoing.specs.Lost.{lost_at_of}
 use Rattle.sent.specs.State.{new_answer, timeout_answer, transmit_answer, ack_answer, when_state_sound, state_sound_of, tracker_of}
 use Rattle.ribsaddle.specs.Answer.{number_of}
-use Rattle.sent_lent.specs.Lent.{Places, whole_in, head_of, times_of, sizes_of, marks_of, pairs_of}
-use Rattle.sent_lent.specs.declared.head.Head.{Head}
-use Rattle.ribsaddle.specs.declared.tracker.Heading.{Heading}
-use Rattle.ribsaddle.specs.declared.tracker.Starting.{Starting}
+use Rattle.sent.specs.declared.head.Head.{Head}
+use Rattle.sent.specs.Whole.{head_of}
+use Rattle.sent_lent.specs.Lent.{Places, whole_in, columns_of, pairs_as}
 use Rattle.ribsaddle.specs.declared.tracker.Tracker.{Tracker}
 
 -- ---- the tracker in parts, head and arrays, and the state that they make up
 
 abbrev pub whole_of : Tracker → SentPackets
-whole_of t = whole_in t.head t.samples t.times t.sizes t.marks
+whole_of t = whole_in t.head t.samples.pairs t.packets.times t.packets.sizes t.packets.marks
 
 abbrev pub parts_of : SentPackets → Tracker
 parts_of s =
     record {
       head = head_of s;
-      samples = pairs_of s.delays.kept;
-      times = times_of s.packets;
-      sizes = sizes_of s.packets;
-      marks = marks_of s.packets;
+      samples = pairs_as s.delays.kept;
+      packets = columns_of s.packets;
     }
 
 -- The arrays have their lengths.
@@ -66,11 +63,20 @@ abbrev pub tracking_of : Answer (Unit {0}) × SentPackets → Tracking
 tracking_of r = record { answer = number_of r.0; state = r.1 }
 
 -- the answer, with the head of the state beside it
+pub record Heading : Type 0 where
+  pub answer : ℕ
+  pub head : Head
+
 abbrev pub heading_of : Tracking → Heading
 heading_of r = record { answer = r.answer; head = head_of r.state }
 
 abbrev pub heading_as : Answer (Unit {0}) × Head → Heading
 heading_as r = record { answer = number_of r.0; head = r.1 }
+
+-- What a new tracker is answered, and what then stands where it was asked for.
+pub record Starting : Type 0 where
+  pub answer : ℕ
+  pub state : Tracker
 
 -- A new tracker is stored where the settings are in range; else what stood there stays.
 abbrev pub created_as : Tracker → Answer (Unit {0}) × SentPackets → Starting
@@ -120,10 +126,8 @@ abbrev pub started_with : Head → Tracker
 started_with head =
     record {
       head = head;
-      samples = replicate 2048 0;
-      times = replicate 512 0;
-      sizes = replicate 1024 0;
-      marks = replicate 2048 0;
+      samples = record { pairs = replicate 2048 0 };
+      packets = record { times = replicate 512 0; sizes = replicate 1024 0; marks = replicate 2048 0 };
     }
 
 abbrev pub started_as : Tracker → Answer (Unit {0}) × Head → Starting

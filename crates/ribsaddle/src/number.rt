@@ -1,4 +1,5 @@
 // The number of each answer: 0, or that of the refusal.
+// (For C. No `From`: neither these enums nor u32 are this crate's.)
 ghost use Rattle.std.specs.Prelude.{◌≡◌};
 ghost use Rattle.outgoing.specs.Answers.{outcome};
 ghost use Rattle.ribsaddle.specs.Answer.{number_of};
@@ -7,6 +8,7 @@ ghost use Rattle.ribsaddle.specs.Receiver.{writing_number};
 use outgoing::answer::Outcome;
 use recv::Writing;
 
+// (No Outcome::number: a promise, its row and its edit would be longer than the three of these.)
 pub(crate) fn of_outcome(told: Outcome) -> u32
     ensures { result ≡ number_of (outcome told) }
 {

@@ -1,129 +1,112 @@
 // What is read of a state: its number is answered, and its value goes to the caller's memory.
-ghost use Rattle.std.specs.Prelude.{◌≡◌};
-ghost use Rattle.outgoing.specs.Answers.{number_told, seq_told, range_told, truth_told, lost_told};
-ghost use Rattle.ribsaddle.specs.Answer.{number_of, part_or, value_or, bit_of};
+// (Numbers, and a place of the caller's for each value: include/ribsaddle.h.)
+ghost use Rattle.std.specs.Prelude.{◌≡◌, ℕ};
+ghost use Rattle.outgoing.specs.Answers.{answer_told};
+ghost use Rattle.ribsaddle.specs.Answer.{number_of, part_or, bit_of};
 ghost use Rattle.ribsaddle.specs.Tracker.{seq_of, start_of, end_of, lost_number_of, lost_type_of, lost_tag_of};
-ghost use Rattle.ribsaddle.specs.Receiver.{count_answer, truth_answer, number_answer};
+ghost use Rattle.ribsaddle.specs.Receiver.{told_answer};
 
-use outgoing::answer::{LostTold, NumberTold, RangeTold, SeqTold, TruthTold};
-use recv::{Count, Number, Truth};
+use outgoing::answer::{LostPacket, Told};
+use seq::{CircularRangeInclusive, SeqNum};
 
-fn bit(truth: bool) -> u64
-    ensures { result ≡ bit_of truth }
-{
-    if truth { 1 } else { 0 }
+// What C is handed as one number.
+pub(crate) trait Whole: Copy {
+    ghost number: { Self → ℕ };
+
+    fn whole(self) -> u64
+        ensures { result ≡ number self };
 }
 
-fn wide(n: u16) -> u64
-    ensures { result ≡ n }
-{
-    n as u64
-}
+impl Whole for u64 {
+    ghost number = { λ n. n };
 
-pub(crate) fn tell_number(told: NumberTold, value: &mut u64) -> u32
-    ensures { (result ≡ number_of (number_told told)) × (value.new ≡ value_or value.old (number_told told)) }
-{
-    match told {
-        NumberTold::Number(n) => {
-            *value = n;
-            0
-        }
-        NumberTold::Refused(reason) => reason.number(),
+    fn whole(self) -> u64 {
+        self
     }
 }
 
-pub(crate) fn tell_seq(told: SeqTold, value: &mut u64) -> u32
-    ensures { (result ≡ number_of (seq_told told)) × (value.new ≡ part_or seq_of value.old (seq_told told)) }
-{
-    match told {
-        SeqTold::Seq(n) => {
-            *value = wide(n.0);
-            0
-        }
-        SeqTold::Refused(reason) => reason.number(),
+impl Whole for usize {
+    ghost number = { λ n. n };
+
+    fn whole(self) -> u64 {
+        self as u64
     }
 }
 
-pub(crate) fn tell_truth(told: TruthTold, value: &mut u64) -> u32
-    ensures { (result ≡ number_of (truth_told told)) × (value.new ≡ part_or bit_of value.old (truth_told told)) }
-{
-    match told {
-        TruthTold::Truth(truth) => {
-            *value = bit(truth);
-            0
-        }
-        TruthTold::Refused(reason) => reason.number(),
+impl Whole for SeqNum {
+    ghost number = { seq_of };
+
+    fn whole(self) -> u64 {
+        u64::from(self.0)
     }
 }
 
-pub(crate) fn tell_range(told: RangeTold, start: &mut u64, end: &mut u64) -> u32
-    ensures { (result ≡ number_of (range_told told)) × (start.new ≡ part_or start_of start.old (range_told told))
-        × (end.new ≡ part_or end_of end.old (range_told told)) }
+impl Whole for bool {
+    ghost number = { bit_of };
+
+    fn whole(self) -> u64 {
+        u64::from(self)
+    }
+}
+
+pub(crate) fn tell<T: Whole>(told: Told<T>, value: &mut u64) -> u32
+    ensures { (result ≡ number_of (answer_told told)) × (value.new ≡ part_or T.number value.old (answer_told told)) }
 {
     match told {
-        RangeTold::Range(range) => {
-            *start = wide(range.start.0);
-            *end = wide(range.end.0);
+        Told::Is(known) => {
+            *value = known.whole();
             0
         }
-        RangeTold::Refused(reason) => reason.number(),
+        Told::Refused(reason) => reason.number(),
+    }
+}
+
+// (Apart from `tell`: here two values go to two places, and below three to three.)
+pub(crate) fn tell_range(told: Told<CircularRangeInclusive>, start: &mut u64, end: &mut u64) -> u32
+    ensures { (result ≡ number_of (answer_told told)) × (start.new ≡ part_or start_of start.old (answer_told told))
+        × (end.new ≡ part_or end_of end.old (answer_told told)) }
+{
+    match told {
+        Told::Is(range) => {
+            *start = range.start.whole();
+            *end = range.end.whole();
+            0
+        }
+        Told::Refused(reason) => reason.number(),
     }
 }
 
 pub(crate) fn tell_lost(
-    told: LostTold,
+    told: Told<LostPacket>,
     number: &mut u64,
     packet_type: &mut u64,
     tag: &mut u64,
 ) -> u32
-    ensures { (result ≡ number_of (lost_told told)) × (number.new ≡ part_or lost_number_of number.old (lost_told told))
-        × (packet_type.new ≡ part_or lost_type_of packet_type.old (lost_told told))
-        × (tag.new ≡ part_or lost_tag_of tag.old (lost_told told)) }
+    ensures { (result ≡ number_of (answer_told told)) × (number.new ≡ part_or lost_number_of number.old (answer_told told))
+        × (packet_type.new ≡ part_or lost_type_of packet_type.old (answer_told told))
+        × (tag.new ≡ part_or lost_tag_of tag.old (answer_told told)) }
 {
     match told {
-        LostTold::Lost(lost) => {
-            let kind = lost.packet_type;
-            *number = wide(lost.seq_num.0);
-            *packet_type = kind.number() as u64;
-            *tag = lost.tag as u64;
+        Told::Is(lost) => {
+            *number = lost.seq_num.whole();
+            *packet_type = u64::from(lost.packet_type.number());
+            *tag = u64::from(lost.tag);
             0
         }
-        LostTold::Refused(reason) => reason.number(),
+        Told::Refused(reason) => reason.number(),
     }
 }
 
-pub(crate) fn tell_count(told: Count, value: &mut u64) -> u32
-    ensures { (result ≡ number_of (count_answer told)) × (value.new ≡ value_or value.old (count_answer told)) }
+// What is told of a receiver, whose refusals are its own. A trait over both kinds of `Told` would
+// be longer than this second function.
+pub(crate) fn tell_received<T: Whole>(told: recv::Told<T>, value: &mut u64) -> u32
+    ensures { (result ≡ number_of (told_answer told)) × (value.new ≡ part_or T.number value.old (told_answer told)) }
 {
     match told {
-        Count::Is(n) => {
-            *value = n as u64;
+        recv::Told::Is(known) => {
+            *value = known.whole();
             0
         }
-        Count::Refused(reason) => reason.number(),
-    }
-}
-
-pub(crate) fn tell_whether(told: Truth, value: &mut u64) -> u32
-    ensures { (result ≡ number_of (truth_answer told)) × (value.new ≡ part_or bit_of value.old (truth_answer told)) }
-{
-    match told {
-        Truth::Is(truth) => {
-            *value = bit(truth);
-            0
-        }
-        Truth::Refused(reason) => reason.number(),
-    }
-}
-
-pub(crate) fn tell_which(told: Number, value: &mut u64) -> u32
-    ensures { (result ≡ number_of (number_answer told)) × (value.new ≡ part_or seq_of value.old (number_answer told)) }
-{
-    match told {
-        Number::Is(n) => {
-            *value = wide(n.0);
-            0
-        }
-        Number::Refused(reason) => reason.number(),
+        recv::Told::Refused(reason) => reason.number(),
     }
 }

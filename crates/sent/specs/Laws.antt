@@ -11,3 +11,6 @@ pub mod Packets
 pub mod Keeps
 pub mod Reached
 pub mod History
+pub mod Heard
+pub mod Whole
+pub mod Leaves

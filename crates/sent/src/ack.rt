@@ -1,63 +1,83 @@
 // An ack: which packets it speaks of, what each newly acknowledged one moves, and loss.
 ghost use Rattle.std.specs.Prelude.{◌≡◌, true, ◌++◌, ◌≤◌, ◌-◌, ◌+◌, length, take, drop};
-ghost use Rattle.sent.specs.Answers.{told};
 ghost use Rattle.outgoing.specs.Ack.{heard_of, from_unacked};
 ghost use Rattle.outgoing.specs.Hear.{heard_at, run_of, unheard_of, all_heard_of, loss_heard_of};
+ghost use Rattle.sent.specs.Full.{Full};
 ghost use Rattle.sent.specs.State.{state_sound_of, ack_state_of, ack_answer};
+ghost use Rattle.sent.specs.Whole.{whole_of, stepped, headed, heard_in};
 
-use crate::answer::Tracked;
-use crate::state::SentPackets;
+use crate::head::{Head, Stepped};
+use crate::packets::Packets;
+use crate::place::Place;
 use congestion::numbers::Numbers;
-use outgoing::ack::{Ack, Heard, Run, ack_check};
+use controller::delays::Sample;
+use controller::samples::{self, Samples};
+use outgoing::ack::{Ack, Run, ack_check};
 use outgoing::answer::{Outcome, Reason};
-use outgoing::kept::Packet;
 use packet::sack;
 use seq::SeqNum;
 
+// What an ack makes of the numbers, and whether a packet was newly acknowledged.
+// (Both and no Option: `all_heard_of` and `loss_heard_of`, outgoing's specs/Hear, say both.)
+#[derive(Clone, Copy)]
+pub(crate) struct Marked {
+    pub(crate) numbers: Numbers,
+    pub(crate) news: bool,
+}
+
 // Every packet that the steps of one run, then those of another, speak of. Acknowledged again:
 // nothing.
-fn hear_runs(
-    packets: [Packet; 512],
+// (Seven parameters: `Ack::heard` is promised over five of them.)
+fn hear_runs<P: Packets>(
+    packets: &mut P,
     numbers: Numbers,
     ack: Ack,
     sack: &[u8],
     bits: u32,
     run: Run,
     then: Run,
-) -> Heard
-    requires { (ack.count ≤ ack.gone + 512) × (run.count + then.count ≤ 65536) }
-    ensures { result ≡ all_heard_of ack (unheard_of packets numbers) (run_of (heard_at ack sack.now bits) run ++ run_of (heard_at ack sack.now bits) then) }
+) -> Marked
+    requires kept { ack.count ≤ ack.gone + 512 }
+    requires steps { run.count + then.count ≤ 65536 }
+    requires full { Full P.packets P.of_packets packets.old }
+    ensures heard { let step = heard_at ack sack.now bits in
+        heard_in result (P.packets packets.new) ≡ all_heard_of ack (unheard_of (P.packets packets.old) numbers) (run_of step run ++ run_of step then) }
+    ensures full { Full P.packets P.of_packets packets.new }
 {
-    let steps = run.count + then.count;
-    let mut heard = Heard {
-        packets,
+    let mut heard = Marked {
         numbers,
-        news: 0,
+        news: false,
     };
-    let mut j: u32 = 0;
-    while j < steps {
+    for j in 0..run.count + then.count {
         let offset = ack.heard(sack, bits, run, then, j);
-        j += 1;
         if !ack.keeps(offset) {
             continue;
         }
-        let place = (offset - (ack.gone as u64) - 1) as usize;
-        let p = heard.packets[place];
+        let place = Place {
+            at: (offset - (ack.gone as u64) - 1) as usize,
+        };
+        let p = packets.packet_at(place);
         if !p.unacked() {
             continue;
         }
-        let numbers = heard.numbers;
-        heard.packets[place] = p.acked_now();
-        heard.numbers = ack.credited(p, numbers);
-        heard.news = 1;
+        packets.put_packet(place, p.acked_now());
+        heard.numbers = ack.credited(p, heard.numbers);
+        heard.news = true;
     }
     heard
 }
 
 // Every packet that the ack speaks of: those that it names, then the earlier ones.
-fn hear(packets: [Packet; 512], numbers: Numbers, ack: Ack, sack: &[u8]) -> Heard
-    requires { (ack.gone ≤ ack.count) × (ack.count ≤ ack.gone + 512) × (ack.count ≤ 60000) × (1 ≤ ack.offset) × (ack.offset ≤ ack.count) × (length sack.now ≤ 252) }
-    ensures { result ≡ all_heard_of ack (unheard_of packets numbers) (heard_of ack.count ack.offset sack.now) }
+// (That the SACK is short is what `ack_check` shows of it: a slice has no type for that.)
+fn hear<P: Packets>(packets: &mut P, numbers: Numbers, ack: Ack, sack: &[u8]) -> Marked
+    requires gone { ack.gone ≤ ack.count }
+    requires kept { ack.count ≤ ack.gone + 512 }
+    requires count { ack.count ≤ 60000 }
+    requires sent { (1 ≤ ack.offset) × (ack.offset ≤ ack.count) }
+    requires sack { length sack.now ≤ 252 }
+    requires full { Full P.packets P.of_packets packets.old }
+    ensures heard { heard_in result (P.packets packets.new) ≡ all_heard_of ack (unheard_of (P.packets packets.old) numbers) (heard_of ack.count ack.offset sack.now) }
+    ensures full { Full P.packets P.of_packets packets.new }
 {
     let bits = sack::bit_count(sack) as u32;
     let named = Run {
@@ -73,120 +93,142 @@ fn hear(packets: [Packet; 512], numbers: Numbers, ack: Ack, sack: &[u8]) -> Hear
 
 // Loss, after the acknowledgements: each packet that is newly lost is marked and counted once. From
 // the back, so that the acknowledged ones behind each are known.
-fn lose(heard: Heard, live: u32) -> Heard
-    requires { live ≤ 512 }
-    ensures { result ≡ loss_heard_of heard live }
+// (`packets, live` and `live ≤ 512`, as in three more: `live` is the head's, which shows it.)
+fn lose<P: Packets>(packets: &mut P, heard: Marked, live: u32) -> Marked
+    requires few { live ≤ 512 }
+    requires full { Full P.packets P.of_packets packets.old }
+    ensures lost { heard_in result (P.packets packets.new) ≡ loss_heard_of (heard_in heard (P.packets packets.old)) live }
+    ensures full { Full P.packets P.of_packets packets.new }
 {
     let mut next = heard;
     let mut later: u32 = 0;
-    let mut i = live as usize;
-    while 0 < i {
-        i -= 1;
-        let p = next.packets[i];
+    for i in (0..live as usize).rev() {
+        let place = Place { at: i };
+        let p = packets.packet_at(place);
         if !p.is_newly_lost(later) {
             later += p.acked_one();
             continue;
         }
-        let numbers = next.numbers;
-        next.packets[i] = p.lost_now();
-        next.numbers = numbers.lost();
+        packets.put_packet(place, p.lost_now());
+        next.numbers = next.numbers.lost();
     }
     next
 }
 
 // How many packets at the front are acknowledged.
-fn acked_run(packets: [Packet; 512], live: u32) -> u32
-    requires { live ≤ 512 }
-    ensures { (from_unacked (take live packets) ≡ drop result (take live packets)) × (result ≤ live) }
+fn acked_run<P: Packets>(packets: &P, live: u32) -> u32
+    requires few { live ≤ 512 }
+    requires full { Full P.packets P.of_packets packets.now }
+    ensures run { let kept = take live (P.packets packets.now) in from_unacked kept ≡ drop result kept }
+    ensures within { result ≤ live }
 {
-    let mut run: u32 = 0;
-    while run < live {
-        let i = run as usize;
-        let p = packets[i];
+    for run in 0..live {
+        let p = packets.packet_at(Place { at: run as usize });
         if p.unacked() {
             return run;
         }
-        run += 1;
     }
-    run
+    live
 }
 
-// The `left` packets from `first` on, moved down to the front.
-fn moved_down(packets: [Packet; 512], first: u32, left: u32) -> [Packet; 512]
-    requires { first + left ≤ 512 }
-    ensures { result ≡ take left (drop first packets) ++ drop left packets }
+// The `left` packets from `first` on, moved down to the front. Nothing moves where they stand
+// there.
+// (Like controller's of samples: one over both traits would be longer than the two loops.)
+fn move_down<P: Packets>(packets: &mut P, first: u32, left: u32)
+    requires within { first + left ≤ 512 }
+    requires full { Full P.packets P.of_packets packets.old }
+    ensures moved { let old = P.packets packets.old in P.packets packets.new ≡ take left (drop first old) ++ drop left old }
+    ensures full { Full P.packets P.of_packets packets.new }
 {
-    let mut next = packets;
-    let from = first as usize;
-    let end = left as usize;
-    let mut i: usize = 0;
-    while i < end {
-        let p = next[from + i];
-        next[i] = p;
-        i += 1;
+    if first == 0 {
+        return;
     }
-    next
+    for i in 0..left {
+        let p = packets.packet_at(Place {
+            at: (first + i) as usize,
+        });
+        packets.put_packet(Place { at: i as usize }, p);
+    }
 }
 
-impl SentPackets {
-    // What an ack that passed its checks leaves. All packets that it newly acknowledges bring the same
-    // sample, which is taken once.
-    fn acknowledged(self, offset: u32, sack: &[u8], delay: u64, clock: u64) -> SentPackets
-        requires { (state_sound_of self ≡ true) × (1 ≤ offset) × (offset ≤ self.count) × (length sack.now ≤ 252) }
-        ensures { result ≡ ack_state_of self offset sack.now delay clock }
+impl Head {
+    // What an ack that passed its checks leaves. All packets that it newly acknowledges bring the
+    // same sample, which is taken once.
+    fn acknowledged<S: Samples, P: Packets>(
+        self,
+        samples: &mut S,
+        packets: &mut P,
+        offset: u32,
+        sack: &[u8],
+        sample: Sample,
+    ) -> Head
+        requires sound { state_sound_of (whole_of self (S.samples samples.old) (P.packets packets.old)) ≡ true }
+        requires sent { (1 ≤ offset) × (offset ≤ self.count) }
+        requires sack { length sack.now ≤ 252 }
+        requires alone { S.of_samples (S.samples samples.old) ≡ samples.old }
+        requires full { Full P.packets P.of_packets packets.old }
+        ensures acked { let s = whole_of self (S.samples samples.old) (P.packets packets.old) in
+            whole_of result (S.samples samples.new) (P.packets packets.new) ≡ ack_state_of s offset sack.now sample.delay sample.at }
+        ensures alone { S.of_samples (S.samples samples.new) ≡ samples.new }
+        ensures full { Full P.packets P.of_packets packets.new }
     {
         let numbers = self.numbers;
-        let delays = self.delays;
-        let packets = self.packets;
         let live = self.live;
-        let taken = delays.take(delay, clock, numbers.delay_window);
+        let window = numbers.delay_window;
         let ack = Ack {
             offset,
             gone: self.count - live,
             count: self.count,
-            base: taken.base(),
-            delay,
-            clock,
+            base: samples::base_with(samples, self.kept, sample, window),
+            delay: sample.delay,
+            clock: sample.at,
         };
-        let marked = lose(hear(packets, numbers, ack, sack), live);
+        let heard = hear(packets, numbers, ack, sack);
         let mut next = self;
-        if marked.news == 0 {
-            next.numbers = numbers.accepted(clock);
+        if !heard.news {
+            next.numbers = numbers.accepted(sample.at);
             return next;
         }
-        let marked_packets = marked.packets;
-        let marked_numbers = marked.numbers;
-        let run = acked_run(marked_packets, live);
-        let kept = moved_down(marked_packets, run, live - run);
+        let marked = lose(packets, heard, live).numbers;
+        let run = acked_run(packets, live);
+        move_down(packets, run, live - run);
         next.live = live - run;
-        next.numbers = marked_numbers.accepted(clock);
-        next.delays = taken;
-        next.packets = kept;
+        next.numbers = marked.accepted(sample.at);
+        next.kept = samples::take(samples, self.kept, sample, window);
         next
     }
 
     // An ack arrives. An empty SACK means none. Refused with 19, 11, 5, 6, 8, 12, in this order.
-    pub fn on_ack(self, number: SeqNum, sack: &[u8], delay: u64, clock: u64) -> Tracked
-        ensures { told result ≡ ack_answer self number sack.now delay clock }
+    // (Document 01: "Ack, with number, SACK bytes, delay, now".)
+    pub fn on_ack<S: Samples, P: Packets>(
+        self,
+        samples: &mut S,
+        packets: &mut P,
+        number: SeqNum,
+        sack: &[u8],
+        delay: u64,
+        clock: u64,
+    ) -> Stepped
+        ensures answer { let s = whole_of self (S.samples samples.old) (P.packets packets.old) in
+            stepped result ≡ headed (ack_answer s number sack.now delay clock) }
+        ensures samples { let s = whole_of self (S.samples samples.old) (P.packets packets.old) in
+            samples.new ≡ S.of_samples (ack_answer s number sack.now delay clock).1.delays.kept }
+        ensures packets { let s = whole_of self (S.samples samples.old) (P.packets packets.old) in
+            packets.new ≡ P.of_packets (ack_answer s number sack.now delay clock).1.packets }
     {
-        if !self.sound() {
-            return Tracked {
-                answer: Outcome::Refused(Reason::NotSound),
-                state: self,
-            };
+        if !self.sound(samples, packets) {
+            return self.refused(Reason::NotSound);
         }
         let last = self.numbers.last;
         let offset = number.offset_from(SeqNum(self.initial)).0 as u32;
         let check = ack_check(last, self.count, offset, sack.len(), delay, clock);
         if let Outcome::Refused(reason) = check {
-            return Tracked {
-                answer: Outcome::Refused(reason),
-                state: self,
-            };
+            return self.refused(reason);
         }
-        Tracked {
+        let sample = Sample { delay, at: clock };
+        Stepped {
             answer: Outcome::Done,
-            state: self.acknowledged(offset, sack, delay, clock),
+            head: self.acknowledged(samples, packets, offset, sack, sample),
         }
     }
 }

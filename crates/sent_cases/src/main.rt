@@ -1,26 +1,19 @@
-// Replays recorded sessions of the tracker and prints a line for the sessions, and one for the events of
-// each kind by answer number.
+// Replays recorded sessions of the tracker and prints a line for the sessions, and one for the
+// events of each kind by answer number.
 
 #![tactic(auto)]
 
-use feed::Source;
-use report::failure::fail;
-use std::fs::File;
+use report::input::list;
+use sent_replay::session::replay;
 use std::io::Result;
 
 fn main(rt: HostRuntime) -> Result<()> {
-    match File::open(&rt, "sent.bin") {
-        Ok(file) => {
-            let totals = sent_replay::session::replay(Source::Opened(file));
-            let kinds = totals.kinds;
-            kinds.sessions.print(&rt, b"sessions")?;
-            kinds.transmits.print(&rt, b"transmit")?;
-            kinds.acks.print(&rt, b"ack")?;
-            kinds.timeouts.print(&rt, b"timeout")
-        }
-        Err(error) => {
-            fail(&rt, "sent.bin", &error);
-            Ok(())
-        }
-    }
+    let Some(list) = list(&rt, "sent.bin")? else {
+        return Ok(());
+    };
+    let kinds = replay(list).kinds;
+    kinds.sessions.print(&rt, b"sessions")?;
+    kinds.transmits.print(&rt, b"transmit")?;
+    kinds.acks.print(&rt, b"ack")?;
+    kinds.timeouts.print(&rt, b"timeout")
 }

@@ -1,16 +1,14 @@
--- A tracker whose arrays are lent to a call one by one: where each packet and each sample stands in them, and the state that head and arrays make up. Definitions only;
+-- A tracker whose packets and samples lie in arrays of integers: where each stands in them, and the state that head and arrays make up. Definitions only;
 -- Laws.LentState shows that arrays of the right lengths and the lists that stand in them determine each other.
 use Rattle.std.specs.Prelude.{ℕ, List, [], ◌∷◌, ◌≡◌, length, get_or, drop}
-use Rattle.common.specs.Answer.{Answer}
 use Rattle.controller.specs.declared.delays.Sample.{Sample}
 use Rattle.controller.specs.declared.delays.Delays.{Delays}
 use Rattle.outgoing.specs.declared.kept.Packet.{Packet}
+use Rattle.sent.specs.declared.head.Head.{Head}
 use Rattle.sent.specs.declared.state.SentPackets.{SentPackets}
-use Rattle.outgoing.specs.declared.ack.Heard.{Heard}
-use Rattle.sent_lent.specs.declared.head.Head.{Head}
-use Rattle.sent_lent.specs.declared.head.Stepped.{Stepped}
-use Rattle.sent_lent.specs.declared.places.Marked.{Marked}
-use Rattle.outgoing.specs.Answers.{outcome}
+use Rattle.sent.specs.Whole.{whole_of}
+use Rattle.sent_lent.specs.declared.columns.Columns.{Columns}
+use Rattle.sent_lent.specs.declared.pairs.Pairs.{Pairs}
 
 -- ---- packets: a time; a tag and a length; and a kind and three marks
 
@@ -61,30 +59,15 @@ pub record Places (times sizes marks : List ℕ) : Type 0 where
   pub sizes_1024 : length sizes ≡ 1024
   pub marks_2048 : length marks ≡ 2048
 
+-- ---- the two places
+
+abbrev pub pairs_as : List Sample → Pairs
+pairs_as l = record { pairs = pairs_of l }
+
+abbrev pub columns_of : List Packet → Columns
+columns_of l = record { times = times_of l; sizes = sizes_of l; marks = marks_of l }
+
 -- ---- the state
 
 abbrev pub whole_in : Head → (samples times sizes marks : List ℕ) → SentPackets
-whole_in h samples times sizes marks =
-    record {
-      initial = h.initial;
-      count = h.count;
-      live = h.live;
-      numbers = h.numbers;
-      delays = delays_in samples h.kept;
-      packets = packets_in times sizes marks;
-    }
-
-abbrev pub head_of : SentPackets → Head
-head_of s = record { initial = s.initial; count = s.count; live = s.live; kept = s.delays.count; numbers = s.numbers }
-
--- What a call answers, and the head beside it.
-abbrev pub stepped : Stepped → Answer (Unit {0}) × Head
-stepped r = (outcome r.answer, r.head)
-
-abbrev pub headed : Answer (Unit {0}) × SentPackets → Answer (Unit {0}) × Head
-headed a = (a.0, head_of a.1)
-
--- ---- what an ack works on
-
-abbrev pub heard_in : Marked → (times sizes marks : List ℕ) → Heard
-heard_in m times sizes marks = record { packets = packets_in times sizes marks; numbers = m.numbers; news = m.news }
+whole_in h samples times sizes marks = whole_of h (samples_in samples) (packets_in times sizes marks)

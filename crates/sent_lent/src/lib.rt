@@ -1,8 +1,8 @@
-// The tracker of sent packets in lent memory, for a caller that keeps it in place: the head by value, the
-// arrays lent, and nothing of them copied.
+// The places where the tracker's packets and samples lie as arrays of integers, so that a caller
+// can keep them in memory of its own: instances of the traits, over which crate `sent` has every
+// call.
 
 #![tactic(auto)]
 
-pub mod head;
-mod places;
-mod samples;
+pub mod columns;
+pub mod pairs;

@@ -1,24 +1,18 @@
-// Document 01's numbers for what the tracker answers. What cannot be told becomes a value that no list
-// has.
-use outgoing::answer::{NumberTold, Outcome, SeqTold};
+// Document 01's numbers for what the tracker answers, as the recorded lists have them.
+use outgoing::answer::{Outcome, Told};
 
+// (No Outcome::number: a promise, its row and its edit would be longer than the three of these.)
 pub fn of_outcome(outcome: Outcome) -> u64 {
     match outcome {
         Outcome::Done => 0,
-        Outcome::Refused(reason) => reason.number() as u64,
+        Outcome::Refused(reason) => u64::from(reason.number()),
     }
 }
 
-pub fn number(told: NumberTold) -> u64 {
+// (No From in the port: document 01 wants its own enums there in place of Result.)
+pub(crate) fn told<T>(told: Told<T>) -> Option<T> {
     match told {
-        NumberTold::Number(n) => n,
-        NumberTold::Refused(_) => u64::MAX,
-    }
-}
-
-pub fn seq(told: SeqTold) -> u64 {
-    match told {
-        SeqTold::Seq(n) => n.0 as u64,
-        SeqTold::Refused(_) => u64::MAX,
+        Told::Is(value) => Some(value),
+        Told::Refused(_) => None,
     }
 }

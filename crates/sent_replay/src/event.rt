@@ -1,12 +1,13 @@
 // One event of a session: what is done to the tracker, and what it must then show.
-use crate::answer::{number, of_outcome, seq};
-use feed::{Feed, Held, both};
-use outgoing::answer::LostTold;
+use crate::answer::{of_outcome, told};
+use feed::Feed;
+use feed::sessions::UnknownKind;
+use outgoing::answer::{LostPacket, Outcome, Reason, Told};
 use packet::kind::{PacketType, TypeRead};
-use report::text::front;
 use sent::answer::Tracked;
 use sent::state::SentPackets;
 use seq::SeqNum;
+use std::io::BufRead;
 
 // The widths of an event: kind, type, number, length or SACK byte count, now, delay.
 const WIDTHS: [u8; 6] = [1, 1, 2, 4, 8, 8];
@@ -17,188 +18,164 @@ const SEEN: [u8; 7] = [1, 1, 4, 4, 8, 2, 2];
 // Each lost packet: number, type, tag.
 const LOST: [u8; 3] = [2, 1, 4];
 
+// What is counted: the sessions, and what is done to the tracker.
+#[derive(Clone, Copy)]
+pub enum Kind {
+    Session,
+    Transmit,
+    Ack,
+    Timeout,
+    // So many first transmits, until one is refused.
+    Run,
+}
+
+impl TryFrom<u64> for Kind {
+    type Error = UnknownKind;
+
+    fn try_from(number: u64) -> Result<Self, UnknownKind> {
+        match number {
+            0 => Ok(Kind::Session),
+            1 => Ok(Kind::Transmit),
+            2 => Ok(Kind::Ack),
+            3 => Ok(Kind::Timeout),
+            4 => Ok(Kind::Run),
+            _ => Err(UnknownKind),
+        }
+    }
+}
+
 // An event that was compared, and the tracker after it.
-#[derive(Drop)]
-pub struct Step {
+#[derive(Clone, Copy)]
+pub struct Compared {
     pub state: SentPackets,
-    pub kind: u64,
+    pub kind: Result<Kind, UnknownKind>,
     pub answer: u64,
     pub is_same: bool,
-    pub feed: Feed,
 }
 
-// What an event asks, and how many bytes of SACK go with it.
-#[derive(Drop)]
-struct Asked {
-    event: [u64; 6],
-    sack_len: usize,
-    feed: Feed,
+// A packet that is sent, or sent again.
+#[derive(Clone, Copy)]
+struct Sending {
+    number: SeqNum,
+    packet_type: PacketType,
+    tag: u32,
+    length: u32,
+    now: u64,
 }
 
-fn sack_length(event: [u64; 6]) -> usize {
-    if event[0] == 2 {
-        (event[3] % 65537) as usize
-    } else {
-        0
+impl Sending {
+    fn on(self, state: SentPackets) -> Tracked {
+        state.on_transmit(
+            self.number,
+            self.packet_type,
+            self.tag,
+            self.length,
+            self.now,
+        )
+    }
+
+    // So many first transmits, until one is refused.
+    fn run_on(self, state: SentPackets, count: u64) -> Tracked {
+        let mut sending = self;
+        let mut tracked = sending.on(state);
+        for _ in 1..count {
+            if matches!(tracked.answer, Outcome::Refused(_)) {
+                break;
+            }
+            sending.number = sending.number.plus(1);
+            tracked = sending.on(tracked.state);
+        }
+        tracked
     }
 }
 
-fn take_event(feed: Feed, window: &mut [u8], sack: &mut [u8]) -> Asked {
-    let mut event = [0u64; 6];
-    let head = feed.numbers(window, &WIDTHS, &mut event);
-    let sack_len = sack_length(event);
-    Asked {
-        event,
-        sack_len,
-        feed: head.bytes(window, sack, sack_len),
-    }
-}
-
-fn type_of(kind: u64) -> PacketType {
-    match PacketType::of_number((kind % 256) as u8) {
+// Reset for a number that no type has: a list may have one. (packet_cases has this of a byte.)
+fn type_of(number: u64) -> PacketType {
+    match PacketType::of_number((number & 0xff) as u8) {
         TypeRead::Known(packet_type) => packet_type,
         TypeRead::UnknownType => PacketType::Reset,
     }
 }
 
-fn transmitted(state: SentPackets, event: [u64; 6], number: SeqNum, tag: u32) -> Tracked {
-    let length = (event[3] % 4294967296) as u32;
-    state.on_transmit(number, type_of(event[1]), tag, length, event[4])
-}
-
-// Kind 4: so many first transmits, until one is refused.
-fn transmitted_run(state: SentPackets, event: [u64; 6], tag: u32, count: u64) -> Tracked {
-    let mut number = SeqNum((event[2] % 65536) as u16);
-    let mut tracked = transmitted(state, event, number, tag);
-    for _ in 1..count {
-        number = number.plus(1);
-        tracked = transmitted_next(tracked, event, number, tag);
-    }
-    tracked
-}
-
-fn transmitted_next(before: Tracked, event: [u64; 6], number: SeqNum, tag: u32) -> Tracked {
-    let answer = before.answer;
-    if of_outcome(answer) != 0 {
-        return before;
-    }
-    transmitted(before.state, event, number, tag)
-}
-
-fn applied(state: SentPackets, event: [u64; 6], sack: &[u8], tag: u32) -> Tracked {
-    let kind = event[0];
-    let number = SeqNum((event[2] % 65536) as u16);
-    if kind == 1 {
-        return transmitted(state, event, number, tag);
-    }
-    if kind == 2 {
-        return state.on_ack(number, sack, event[5], event[4]);
-    }
-    if kind == 3 {
-        return state.on_timeout();
-    }
-    transmitted_run(state, event, tag, event[5])
-}
-
-fn is_lost(told: LostTold, lost: [u64; 3]) -> bool {
+// Takes the next lost packet of the list, and holds the one that is told against it.
+// (Field by field, as below: a state's answers against a record's numbers; no type has both.)
+fn is_lost<R: BufRead + Drop>(told: Told<LostPacket>, feed: &mut Feed<R>) -> bool {
+    let [number, packet_type, tag] = feed.numbers(LOST);
     match told {
-        LostTold::Lost(found) => {
-            let seq_num = found.seq_num;
-            let packet_type = found.packet_type;
-            let is_number = both(
-                seq_num.0 as u64 == lost[0],
-                packet_type.number() as u64 == lost[1],
-            );
-            both(is_number, found.tag as u64 == lost[2])
+        Told::Is(found) => {
+            u64::from(found.seq_num.0) == number
+                && u64::from(found.packet_type.number()) == packet_type
+                && u64::from(found.tag) == tag
         }
-        LostTold::Refused(_) => false,
+        Told::Refused(_) => false,
     }
-}
-
-// Holds the lost packet at a position against the list's next one.
-fn held_next(held: Held, state: SentPackets, position: u64, window: &mut [u8]) -> Held {
-    let mut lost = [0u64; 3];
-    let is_same = held.is_same;
-    let behind = held.feed.numbers(window, &LOST, &mut lost);
-    let found = state.lost_at((position % 4294967296) as u32);
-    Held {
-        is_same: both(is_same, is_lost(found, lost)),
-        feed: behind,
-    }
-}
-
-fn held_lost(state: SentPackets, feed: Feed, window: &mut [u8], count: u64) -> Held {
-    let mut held = Held {
-        is_same: true,
-        feed,
-    };
-    for position in 0..count {
-        held = held_next(held, state, position, window);
-    }
-    held
 }
 
 // The position behind the last gives 12.
-fn is_end(told: LostTold) -> bool {
-    match told {
-        LostTold::Lost(_) => false,
-        LostTold::Refused(reason) => reason.number() == 12,
-    }
+fn is_end(told: Told<LostPacket>) -> bool {
+    matches!(told, Told::Refused(Reason::NotSent))
 }
 
-fn is_shown(state: SentPackets, seen: [u64; 7]) -> bool {
-    let sizes = both(
-        number(state.in_flight()) == seen[2],
-        number(state.maximum()) == seen[3],
-    );
-    let others = both(
-        number(state.timeout()) == seen[4],
-        seq(state.ack_num()) == seen[5],
-    );
-    let lost = both(
-        number(state.lost_count()) == seen[6],
-        is_end(state.lost_at((seen[6] % 65536) as u32)),
-    );
-    both(both(sizes, others), lost)
-}
-
-fn compare_lost(
-    tracked: Tracked,
-    kind: u64,
-    seen: [u64; 7],
-    feed: Feed,
-    window: &mut [u8],
-) -> Step {
+// Takes what the tracker must show, and holds it against what it shows.
+fn is_shown<R: BufRead + Drop>(tracked: Tracked, feed: &mut Feed<R>) -> (u64, bool) {
+    let [
+        answer,
+        _source,
+        in_flight,
+        maximum,
+        timeout,
+        ack_num,
+        lost_count,
+    ] = feed.numbers(SEEN);
     let state = tracked.state;
-    let answer = tracked.answer;
-    let held = held_lost(state, feed, window, seen[6]);
-    let is_equal = both(of_outcome(answer) == seen[0], is_shown(state, seen));
-    let is_whole = both(held.is_same, !held.feed.short);
-    Step {
-        state,
-        kind,
-        answer: seen[0],
-        is_same: both(is_equal, is_whole),
-        feed: held.feed,
+    let end = (lost_count & 0xffff) as u32;
+    let mut is_same = of_outcome(tracked.answer) == answer
+        && told(state.in_flight()) == Some(in_flight)
+        && told(state.maximum()) == Some(maximum)
+        && told(state.timeout()) == Some(timeout)
+        && told(state.ack_num()).is_some_and(|n| u64::from(n.0) == ack_num)
+        && told(state.lost_count()) == Some(lost_count)
+        && is_end(state.lost_at(end));
+    for position in 0..end {
+        is_same &= is_lost(state.lost_at(position), feed);
     }
+    (answer, is_same & !feed.is_short)
 }
 
-fn compare_seen(tracked: Tracked, kind: u64, feed: Feed, window: &mut [u8]) -> Step {
-    let mut seen = [0u64; 7];
-    let behind = feed.numbers(window, &SEEN, &mut seen);
-    compare_lost(tracked, kind, seen, behind, window)
-}
-
-// Takes an event whose index in its session is `tag`.
-pub fn compare(
+// Takes an event whose index in its session is `tag`. The room is for its SACK, of which as much is
+// taken as it holds. One of no known kind is a run.
+pub fn compare<R: BufRead + Drop>(
     state: SentPackets,
     tag: u32,
-    feed: Feed,
-    window: &mut [u8],
-    sack: &mut [u8],
-) -> Step {
-    let asked = take_event(feed, window, sack);
-    let event = asked.event;
-    let tracked = applied(state, event, front(sack, asked.sack_len), tag);
-    compare_seen(tracked, event[0], asked.feed, window)
+    feed: &mut Feed<R>,
+    room: &mut [u8],
+) -> Compared {
+    let [kind, packet_type, number, length, now, delay] = feed.numbers(WIDTHS);
+    let kind = Kind::try_from(kind);
+    let size = (length % 65537).min(room.len() as u64) as usize;
+    let number = SeqNum((number & 0xffff) as u16);
+    let sending = Sending {
+        number,
+        packet_type: type_of(packet_type),
+        tag,
+        length: (length & 0xffff_ffff) as u32,
+        now,
+    };
+    let tracked = match kind {
+        Ok(Kind::Transmit) => sending.on(state),
+        Ok(Kind::Ack) => {
+            let sack = &mut room[..size];
+            feed.bytes(sack);
+            state.on_ack(number, sack, delay, now)
+        }
+        Ok(Kind::Timeout) => state.on_timeout(),
+        Ok(Kind::Run) | Ok(Kind::Session) | Err(UnknownKind) => sending.run_on(state, delay),
+    };
+    let (answer, is_same) = is_shown(tracked, feed);
+    Compared {
+        state: tracked.state,
+        kind,
+        answer,
+        is_same,
+    }
 }

@@ -1,5 +1,5 @@
-// Replays recorded sessions of the tracker (oracle/README.md): every answer, every number after each
-// event and the whole lost list are compared.
+// Replays recorded sessions of the tracker (oracle/README.md): every answer, every number after
+// each event and the whole lost list are compared.
 
 #![tactic(auto)]
 

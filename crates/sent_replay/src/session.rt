@@ -1,15 +1,14 @@
-// Sessions: settings, the answer to them, a count of events, the events.
-use crate::answer::{number, of_outcome, seq};
-use crate::event::compare;
-use congestion::settings::Settings;
-use feed::{Feed, Source, both};
+// Sessions of the tracker, and what they come to.
+use crate::answer::{of_outcome, told};
+use crate::event::{Kind, compare};
+use feed::sessions::{Head, Replayed};
+use feed::{Feed, sessions};
 use report::tally::Tally;
-use sent::answer::Tracked;
 use sent::state::SentPackets;
 use seq::SeqNum;
-
-// The widths of the eight settings, the answer and the count of events.
-const WIDTHS: [u8; 10] = [8, 8, 8, 8, 8, 8, 8, 8, 1, 4];
+use std::fmt;
+use std::fmt::{Display, Formatter};
+use std::io::BufRead;
 
 // The sessions, and the events of each kind.
 #[derive(Clone, Copy)]
@@ -21,181 +20,118 @@ pub struct Kinds {
     pub runs: Tally,
 }
 
-// How the last session ended: packets sent, in flight, maximum, timeout, ack_num.
-#[derive(Drop)]
+// How a session ended. What the tracker refuses to tell is the largest number.
+#[derive(Clone, Copy, Default)]
+pub struct End {
+    pub packets: u64,
+    pub in_flight: u64,
+    pub maximum: u64,
+    pub timeout: u64,
+    pub ack_num: u64,
+}
+
+// What the sessions come to: the cases by kind, and how the last session ended.
+#[derive(Clone, Copy)]
 pub struct Totals {
     pub kinds: Kinds,
-    pub last: [u64; 5],
-    pub feed: Feed,
-    pub goes_on: bool,
+    pub last: End,
 }
 
+// The totals so far, and room for a SACK.
 #[derive(Drop)]
-struct Run {
-    state: SentPackets,
-    kinds: Kinds,
-    feed: Feed,
+struct Replaying {
+    totals: Totals,
+    room: [u8; 65536],
 }
 
-// The gain of a bit pattern. One with the largest exponent is an infinity or a NaN.
-fn gain_of(bits: u64) -> f64 {
-    if bits % 9223372036854775808 / 4503599627370496 == 2047 {
-        if bits % 4503599627370496 == 0 {
-            return 1.0 / 0.0;
+impl Kinds {
+    fn new() -> Self {
+        let none = Tally::new();
+        Self {
+            sessions: none,
+            transmits: none,
+            acks: none,
+            timeouts: none,
+            runs: none,
         }
-        return 0.0 / 0.0;
     }
-    f64::from_bits(bits)
-}
 
-fn started(settings: [u64; 10]) -> Tracked {
-    let given = Settings {
-        target_delay: settings[1],
-        first_timeout: settings[2],
-        minimum_timeout: settings[3],
-        largest_packet: settings[4],
-        increase: settings[5],
-        gain: gain_of(settings[6]),
-        delay_window: settings[7],
-    };
-    SentPackets::new(SeqNum((settings[0] % 65536) as u16), given)
-}
-
-fn counted_if(tally: Tally, is_of: bool, answer: u64, is_same: bool) -> Tally {
-    if is_of {
-        tally.counted(answer, is_same)
-    } else {
-        tally
+    // One case more of a kind.
+    fn count(&mut self, kind: Kind, answer: u64, is_same: bool) {
+        let tally = match kind {
+            Kind::Session => &mut self.sessions,
+            Kind::Transmit => &mut self.transmits,
+            Kind::Ack => &mut self.acks,
+            Kind::Timeout => &mut self.timeouts,
+            Kind::Run => &mut self.runs,
+        };
+        *tally = tally.counted(answer, is_same);
     }
 }
 
-// One case more of a kind: 0 a session, 1 to 3 as in the list, any other a run, which differs if it is
-// not 4.
-fn counted(kinds: Kinds, kind: u64, answer: u64, is_same: bool) -> Kinds {
-    Kinds {
-        sessions: counted_if(kinds.sessions, kind == 0, answer, is_same),
-        transmits: counted_if(kinds.transmits, kind == 1, answer, is_same),
-        acks: counted_if(kinds.acks, kind == 2, answer, is_same),
-        timeouts: counted_if(kinds.timeouts, kind == 3, answer, is_same),
-        runs: counted_if(kinds.runs, kind > 3, answer, both(is_same, kind == 4)),
+impl End {
+    fn of(state: SentPackets) -> Self {
+        Self {
+            packets: u64::from(state.count),
+            in_flight: told(state.in_flight()).unwrap_or(u64::MAX),
+            maximum: told(state.maximum()).unwrap_or(u64::MAX),
+            timeout: told(state.timeout()).unwrap_or(u64::MAX),
+            ack_num: told(state.ack_num()).map_or(u64::MAX, |n| u64::from(n.0)),
+        }
     }
 }
 
-fn one_event(run: Run, index: u64, window: &mut [u8], sack: &mut [u8]) -> Run {
-    let kinds = run.kinds;
-    let tag = (index % 4294967296) as u32;
-    let step = compare(run.state, tag, run.feed, window, sack);
-    let state = step.state;
-    let feed = step.feed;
-    Run {
-        state,
-        kinds: counted(kinds, step.kind, step.answer, step.is_same),
-        feed,
+impl Display for End {
+    fn fmt<W: fmt::Write>(&self, f: &mut Formatter<W>) -> fmt::Result {
+        let packets = self.packets;
+        let in_flight = self.in_flight;
+        let maximum = self.maximum;
+        let timeout = self.timeout;
+        let ack_num = self.ack_num;
+        write!(f, "{packets} {in_flight} {maximum} {timeout} {ack_num}")
     }
 }
 
-fn all_events(run: Run, window: &mut [u8], sack: &mut [u8], count: u64) -> Run {
-    let mut run = run;
-    for index in 0..count {
-        run = one_event(run, index, window, sack);
+impl Replayed for Replaying {
+    type State = SentPackets;
+
+    fn start(&self, head: &Head) -> (SentPackets, u64) {
+        let tracked = SentPackets::new(SeqNum(head.initial), head.settings);
+        (tracked.state, of_outcome(tracked.answer))
     }
-    run
+
+    fn count(&mut self, answer: u64, is_same: bool) {
+        self.totals.kinds.count(Kind::Session, answer, is_same);
+    }
+
+    // One of no known kind is a run that differs.
+    fn event<R: BufRead + Drop>(
+        &mut self,
+        state: SentPackets,
+        index: u32,
+        feed: &mut Feed<R>,
+    ) -> SentPackets {
+        let compared = compare(state, index, feed, &mut self.room);
+        let is_same = compared.is_same & compared.kind.is_ok();
+        let kind = compared.kind.unwrap_or(Kind::Run);
+        self.totals.kinds.count(kind, compared.answer, is_same);
+        compared.state
+    }
+
+    fn end(&mut self, state: SentPackets) {
+        self.totals.last = End::of(state);
+    }
 }
 
-fn ended(state: SentPackets) -> [u64; 5] {
-    [
-        state.count as u64,
-        number(state.in_flight()),
-        number(state.maximum()),
-        number(state.timeout()),
-        seq(state.ack_num()),
-    ]
-}
-
-// A session whose head was taken.
-fn run_session(
-    kinds: Kinds,
-    settings: [u64; 10],
-    feed: Feed,
-    window: &mut [u8],
-    sack: &mut [u8],
-) -> Totals {
-    let tracked = started(settings);
-    let state = tracked.state;
-    let answer = tracked.answer;
-    let is_same = both(of_outcome(answer) == settings[8], !feed.short);
-    let run = all_events(
-        Run {
-            state,
-            kinds: counted(kinds, 0, settings[8], is_same),
-            feed,
+// Replays all sessions of a list.
+pub fn replay<R: BufRead + Drop>(source: R) -> Totals {
+    let mut replay = Replaying {
+        totals: Totals {
+            kinds: Kinds::new(),
+            last: End::default(),
         },
-        window,
-        sack,
-        settings[9],
-    );
-    let kinds_now = run.kinds;
-    let behind = run.feed;
-    Totals {
-        kinds: kinds_now,
-        last: ended(run.state),
-        feed: behind,
-        goes_on: true,
-    }
-}
-
-fn session(totals: Totals, window: &mut [u8], sack: &mut [u8]) -> Totals {
-    let mut settings = [0u64; 10];
-    let behind = totals.feed.numbers(window, &WIDTHS, &mut settings);
-    run_session(totals.kinds, settings, behind, window, sack)
-}
-
-fn next_session(totals: Totals, window: &mut [u8], sack: &mut [u8]) -> Totals {
-    let feed = totals.feed.filled(window);
-    let kinds = totals.kinds;
-    let last = totals.last;
-    let is_left = feed.has_more();
-    let ready = Totals {
-        kinds,
-        last,
-        feed,
-        goes_on: is_left,
+        room: [0; 65536],
     };
-    if is_left {
-        session(ready, window, sack)
-    } else {
-        ready
-    }
-}
-
-fn none() -> Kinds {
-    Kinds {
-        sessions: Tally::new(),
-        transmits: Tally::new(),
-        acks: Tally::new(),
-        timeouts: Tally::new(),
-        runs: Tally::new(),
-    }
-}
-
-fn replay_all(source: Source, window: &mut [u8], sack: &mut [u8]) -> Totals {
-    let mut totals = Totals {
-        kinds: none(),
-        last: [0; 5],
-        feed: Feed::new(source),
-        goes_on: true,
-    };
-    for _ in 0..u64::MAX {
-        totals = next_session(totals, window, sack);
-        if !totals.goes_on {
-            return totals;
-        }
-    }
-    totals
-}
-
-pub fn replay(source: Source) -> Totals {
-    let mut window = io::large_buffer();
-    let mut sack = io::large_buffer();
-    replay_all(source, &mut window, &mut sack)
+    sessions::replay(source, &mut replay);
+    replay.totals
 }

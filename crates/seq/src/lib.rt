@@ -7,11 +7,11 @@ ghost use Rattle.seq.specs.Seq.{plus_of, offset_of, range_of, contains_of, next_
 
 // A number as it stands on the wire. Numbers run round modulo 65,536.
 #[repr(C)]
-#[derive(Clone, Copy)]
+#[derive(Clone, Copy, PartialEq, Eq)]
 pub struct SeqNum(pub u16);
 
 // How far a number lies past an initial number, modulo 65,536.
-#[derive(Clone, Copy)]
+#[derive(Clone, Copy, PartialEq, Eq, PartialOrd, Ord)]
 pub struct Offset(pub u16);
 
 impl SeqNum {
@@ -19,7 +19,7 @@ impl SeqNum {
     pub fn plus(self, steps: u16) -> SeqNum
         ensures { result ≡ plus_of self steps }
     {
-        SeqNum(std::num::wrapping_add_u16(self.0, steps))
+        SeqNum(self.0.wrapping_add(steps))
     }
 
     // The number that lies `offset` past this one.
@@ -33,7 +33,7 @@ impl SeqNum {
     pub fn offset_from(self, initial: SeqNum) -> Offset
         ensures { result ≡ offset_of self initial }
     {
-        Offset(std::num::wrapping_sub_u16(self.0, initial.0))
+        Offset(self.0.wrapping_sub(initial.0))
     }
 }
 
@@ -42,10 +42,12 @@ impl SeqNum {
 pub struct CircularRangeInclusive {
     pub start: SeqNum,
     pub end: SeqNum,
+    // A flag and no Option: `contains` reads start and end of a walk that is over, too.
     pub exhausted: bool,
 }
 
 // What a step of the walk gives: a number with what is left, or the end.
+// An enum of the port's own in place of Option: document 01, "What must change shape".
 #[derive(Clone, Copy)]
 pub enum Step {
     Item(SeqNum, CircularRangeInclusive),
@@ -67,9 +69,7 @@ impl CircularRangeInclusive {
     pub fn contains(self, item: SeqNum) -> bool
         ensures { result ≡ contains_of self.start self.end item }
     {
-        let from = item.offset_from(self.start);
-        let length = self.end.offset_from(self.start);
-        from.0 <= length.0
+        item.offset_from(self.start) <= self.end.offset_from(self.start)
     }
 
     // The next number of the walk.
@@ -79,24 +79,20 @@ impl CircularRangeInclusive {
         if self.exhausted {
             return Step::Done;
         }
-        let start = self.start;
-        let end = self.end;
-        if start.0 == end.0 {
+        if self.start == self.end {
             return Step::Item(
-                end,
-                CircularRangeInclusive {
-                    start,
-                    end,
+                self.end,
+                Self {
                     exhausted: true,
+                    ..self
                 },
             );
         }
         Step::Item(
-            start,
-            CircularRangeInclusive {
-                start: start.plus(1),
-                end,
-                exhausted: false,
+            self.start,
+            Self {
+                start: self.start.plus(1),
+                ..self
             },
         )
     }

@@ -2,7 +2,8 @@
 use Prim.Native.Nat.{ℕ}
 use mathlib.Core.List.{List}
 use Rattle.common.specs.Promise.{Promise, by_value, by_code}
-use Rattle.session.specs.declared.line.Written.{Written}
+use Rattle.std.specs.declared.result.Result.{Result}
+use Rattle.session.specs.declared.line.NoRoom.{NoRoom}
 use Rattle.session.specs.declared.replay.Filled.{Filled}
 use Rattle.session.specs.Answers.{written}
 use Rattle.session.specs.Replay.{started, stepped}
@@ -16,13 +17,13 @@ use Rattle.session.proofs.replay.Replay.step.Reads as step
 use Rattle.session.proofs.replay.Replay.fill.Reads as fill
 
 -- The answer, and every byte of the lent room as the writer returns.
-put_line_promise : Promise {W = Written × List ℕ} put-line.Pre put-line.Post (λ κs r s. (r, s.1.0.now))
+put_line_promise : Promise {W = Result ℕ NoRoom × List ℕ} put-line.Pre put-line.Post (λ κs r s. (r, s.1.0.now))
 put_line_promise = by_code (λ x. (written x.0, x.1)) wrote_one _ (λ κs a. tt) (λ κs a r s p. p)
 
 bad_number_promise : Promise bad-number.Pre bad-number.Post (λ κs r s. r)
 bad_number_promise = by_value _ (λ κs a. tt) (λ κs a r s p. p)
 
-put_bad_promise : Promise {W = Written × List ℕ} put-bad.Pre put-bad.Post (λ κs r s. (r, s.1.0.now))
+put_bad_promise : Promise {W = Result ℕ NoRoom × List ℕ} put-bad.Pre put-bad.Post (λ κs r s. (r, s.1.0.now))
 put_bad_promise = by_code (λ x. (written x.0, x.1)) wrote_one _ (λ κs a. tt) (λ κs a r s p. p)
 
 step_number_promise : Promise step-number.Pre step-number.Post (λ κs r s. r)

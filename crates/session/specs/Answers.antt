@@ -1,21 +1,20 @@
 -- Each case of each answer by its number, with its values. The promises use these; Laws.OneToOne shows that no two answers have the same number and values.
 -- Definitions only.
-use Rattle.std.specs.Prelude.{ℕ, ◌+◌, cond, List, [], ◌∷◌, ◌++◌, leb, length}
+use Rattle.std.specs.Prelude.{ℕ, ◌+◌, cond, List, [], ◌∷◌, ◌++◌, leb, length, Result, Ok, Err}
 use Rattle.common.specs.Answer.{Answer, done, refused}
 use Rattle.common.specs.Laws.Put.{put}
 use Rattle.session.specs.declared.line.Bad.{Bad}
 use Rattle.session.specs.declared.line.Bad.TheVariants.{BadSession, BadSetting}
 use Rattle.session.specs.declared.replay.StepReason.{StepReason}
 use Rattle.session.specs.declared.replay.StepReason.TheVariants.{BadSession as StepBad, NotSound}
-use Rattle.session.specs.declared.line.Written.{Written}
+use Rattle.session.specs.declared.line.NoRoom.{NoRoom}
 use Rattle.session.specs.Lines.{decimal, space}
-use Rattle.session.specs.declared.line.Written.TheVariants.{Behind, NoRoom}
 
 -- ---- writing text
 
-abbrev pub written : Written → Answer ℕ
-written (Behind at) = done at
-written NoRoom = refused 9
+abbrev pub written : Result ℕ NoRoom → Answer ℕ
+written (Ok at) = done at
+written (Err e) = refused 9
 
 -- The longest line: six numbers of 20 digits, with a character behind each.
 abbrev pub longest : ℕ

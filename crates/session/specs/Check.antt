@@ -1,14 +1,17 @@
 -- What the check of a file hands on: how many events there are, and the place from which the SACK bytes run to the end. Definitions only.
-use Rattle.std.specs.Prelude.{ℕ, ◌+◌, ◌*◌, ◌-◌, List, length}
+use Rattle.std.specs.Prelude.{ℕ, ◌+◌, ◌*◌, ◌-◌, cond, List, length, Option, Some, None}
 use Rattle.common.specs.Answer.{Answer, done, refused}
 use Rattle.session.specs.declared.check.Layout.{Layout}
-use Rattle.session.specs.declared.check.Checked.{Checked}
-use Rattle.session.specs.declared.check.Checked.TheVariants.{BadSession, Good}
-use Rattle.session.specs.Format.{setting_count, setting_size, event_size, Session, session_of, ◌into◌}
+use Rattle.session.specs.declared.event.Event.{Event}
+use Rattle.session.specs.Format.{setting_count, setting_size, event_size, all_known, sack_total, Session, session_of, ◌into◌}
 
-abbrev pub checked : Checked → Answer Layout
-checked BadSession = refused 20
-checked (Good l) = done l
+abbrev pub checked : Option Layout → Answer Layout
+checked None = refused 20
+checked (Some l) = done l
+
+-- How many SACK bytes events use up in all, where each of them is known.
+abbrev pub known_total : List Event → Option ℕ
+known_total es = cond (all_known es) (Some (sack_total es)) None
 
 -- The place of an event: behind the settings' section and the events' count.
 abbrev pub event_place : ℕ → ℕ

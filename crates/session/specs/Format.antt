@@ -1,11 +1,13 @@
 -- The file of a recorded sender session (document 02, No. 3), as a list of bytes. Definitions only.
-use Rattle.std.specs.Prelude.{ℕ, zero, suc, ◌+◌, ◌*◌, Bool, true, ◌&&◌, cond, List, [], ◌∷◌, leb, eqb, Float, length, take, drop}
+use Rattle.std.specs.Prelude.{ℕ, zero, suc, ◌+◌, ◌*◌, Bool, true, ◌&&◌, cond, List, [], ◌∷◌, leb, eqb, Float, length, take, drop, Option, Some, None}
 use Rattle.std.specs.Float.{binary64}
 use Rattle.std.specs.Float.Ieee.{of_bits}
 use Rattle.common.specs.Answer.{Answer, done, refused}
 use Rattle.packet.specs.Layout.{big}
 use Rattle.congestion.specs.declared.settings.Settings.{Settings}
 use Rattle.session.specs.declared.event.Event.{Event}
+use Rattle.session.specs.declared.event.Kind.{Kind}
+use Rattle.session.specs.declared.event.Kind.TheVariants.{Transmit, Ack, Timeout}
 
 infixr 30 ◌into◌
 -- What follows goes on from what was handed over; a refusal stays.
@@ -107,6 +109,9 @@ is_ack e = eqb e.kind 2
 
 abbrev pub is_timeout : Event → Bool
 is_timeout e = eqb e.kind 3
+
+abbrev pub kind_of : ℕ → Option Kind
+kind_of n = cond (eqb n 1) (Some Transmit) (cond (eqb n 2) (Some Ack) (cond (eqb n 3) (Some Timeout) None))
 
 -- A kind that is known, and in a transmit a type that is known: 0 to 4.
 abbrev pub is_known : Event → Bool

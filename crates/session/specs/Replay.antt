@@ -1,6 +1,6 @@
 -- A replay as the library's functions give it: what a file answers, and what a step makes of any replay, a forged one among them. Laws.Printed shows that the steps from a
 -- file's start print what the document says. Definitions only.
-use Rattle.std.specs.Prelude.{ℕ, zero, suc, ◌+◌, Bool, true, false, not, ◌&&◌, cond, List, [], ◌∷◌, ◌++◌, leb, eqb, pos, length, take, drop}
+use Rattle.std.specs.Prelude.{ℕ, zero, suc, ◌+◌, Bool, true, false, not, ◌&&◌, cond, List, [], ◌∷◌, ◌++◌, leb, eqb, pos, length, take, drop, Option, Some, None, Result, Ok, Err}
 use Rattle.std.specs.Float.{fin}
 use Rattle.common.specs.Answer.{Answer, done, refused}
 use Rattle.common.specs.Laws.Put.{put}
@@ -12,15 +12,10 @@ use Rattle.outgoing.specs.Read.{in_flight_in, maximum_in, timeout_in, lost_count
 use Rattle.session.specs.declared.event.Event.{Event}
 use Rattle.session.specs.declared.line.Line.{Line}
 use Rattle.session.specs.declared.replay.Replay.{Replay}
-use Rattle.session.specs.declared.replay.Start.{Start}
-use Rattle.session.specs.declared.replay.Start.TheVariants.{Ready, Refused as StartRefused}
-use Rattle.session.specs.declared.replay.Started.{Started}
-use Rattle.session.specs.declared.replay.Told.{Told}
-use Rattle.session.specs.declared.replay.Told.TheVariants.{Event as EventTold, Ended, Refused as StepRefused}
+use Rattle.session.specs.declared.replay.StepReason.{StepReason}
 use Rattle.session.specs.declared.replay.Stepped.{Stepped}
 use Rattle.session.specs.declared.replay.Filled.{Filled}
-use Rattle.session.specs.declared.step.Found.{Found}
-use Rattle.session.specs.declared.step.Found.TheVariants.{Known, BadSession}
+use Rattle.session.specs.declared.line.Bad.{Bad}
 use Rattle.session.specs.Format.{event_size, event_of, is_transmit, is_ack, is_known, sack_size, Session, session_of}
 use Rattle.session.specs.declared.check.Layout.{Layout}
 use Rattle.session.specs.Check.{event_place, layout_in}
@@ -29,12 +24,9 @@ use Rattle.session.specs.Answers.{bad_number, longest, step_number}
 
 -- ---- the start
 
-abbrev pub start_told : Start → Answer (Unit {0})
-start_told Ready = done tt
-start_told (StartRefused b) = refused (bad_number b)
-
-abbrev pub started : Started → Answer (Unit {0}) × Replay
-started s = (start_told s.answer, s.replay)
+abbrev pub started : Result Replay Bad → Answer Replay
+started (Ok r) = done r
+started (Err b) = refused (bad_number b)
 
 -- 20 goes before 10.
 abbrev pub verdict_of : Bool → Bool → Answer (Unit {0})
@@ -52,7 +44,7 @@ no_settings =
       delay_window = 0;
     }
 
--- What is handed back for a file that is no session: no event, and a tracker that is not sound.
+-- What stands beside the answer for a file that is no session: no event, and a tracker that is not sound.
 abbrev pub no_replay : Replay
 no_replay = record { index = 0; count = 0; sack_at = 0; state = (new_answer (seq 0) no_settings).1 }
 
@@ -70,19 +62,24 @@ start_of file (refused n) = (refused n, no_replay)
 unfoldable pub start_answer : List ℕ → Answer (Unit {0}) × Replay
 start_answer file = start_of file (session_of file)
 
+-- The replay is handed over where it may go on; beside a refusal none is.
+abbrev pub handed_of : Answer (Unit {0}) × Replay → Answer Replay
+handed_of (done x, r) = done r
+handed_of (refused n, r) = refused n
+
 -- ---- a step
 
-abbrev pub told_of : Told → Answer (List Line)
-told_of (EventTold l) = done (l ∷ [])
-told_of Ended = done []
-told_of (StepRefused r) = refused (step_number r)
+abbrev pub told_of : Result (Option Line) StepReason → Answer (List Line)
+told_of (Ok (Some l)) = done (l ∷ [])
+told_of (Ok None) = done []
+told_of (Err r) = refused (step_number r)
 
 abbrev pub stepped : Stepped → Answer (List Line) × Replay
 stepped s = (told_of s.told, s.replay)
 
-abbrev pub found : Found → Answer Event
-found (Known e) = done e
-found BadSession = refused 20
+abbrev pub found : Option Event → Answer Event
+found (Some e) = done e
+found None = refused 20
 
 -- The event of an index, if it is in the file and known.
 unfoldable pub event_at : List ℕ → ℕ → Answer Event

@@ -1,90 +1,76 @@
 // The whole of a file, checked before the first event.
 ghost use Rattle.std.specs.Prelude.{◌+◌, ◌*◌, ◌≤◌, ◌≡◌, length, drop};
-ghost use Rattle.session.specs.Format.{events_of, all_known, sack_total};
-ghost use Rattle.session.specs.Check.{checked, check_of};
+ghost use Rattle.session.specs.Format.{events_of, field_at};
+ghost use Rattle.session.specs.Check.{checked, check_of, known_total};
 
 use crate::event::{Event, read_event};
-use crate::number::{read32, read64};
+use crate::number::bytes_at;
+use crate::settings::setting;
 
-// Where the events and the SACK bytes of a file are: `count` events from the place EVENTS on, and the
-// SACK bytes from `sack_at` to the end.
+// Where the events and the SACK bytes of a file are: `count` events from the place EVENTS on, and
+// the SACK bytes from `sack_at` to the end.
+// (A place and no slice: the file is lent to each call, and a replay is a plain value.)
 #[derive(Clone, Copy)]
 pub(crate) struct Layout {
     pub count: u32,
     pub sack_at: usize,
 }
 
-// Where they are, or a file that is no session (20).
-#[derive(Clone, Copy)]
-pub(crate) enum Checked {
-    BadSession,
-    Good(Layout),
-}
-
 // The place of the first event: behind the settings and both counts.
 pub(crate) const EVENTS: usize = 72;
 
-// What a walk over the events finds.
-#[derive(Clone, Copy)]
-struct Walk {
-    fine: bool,
-    total: u64,
-}
-
-fn wide(x: u32) -> u64
-    ensures { result ≡ x }
+// A section's count, which stands before its items.
+fn count_at(file: &[u8], at: usize) -> u32
+    requires { at + 4 ≤ length file.now }
+    ensures { result ≡ field_at file.now at 4 }
 {
-    x as u64
+    u32::from_be_bytes(bytes_at(file, at))
 }
 
-// Is each of the events known, and how many SACK bytes do the acks have in all?
-fn walked(file: &[u8], count: usize) -> Walk
+// How many SACK bytes the acks have in all, where each of the events is known.
+fn walked(file: &[u8], count: usize) -> Option<u64>
     requires { (72 + 24 * count ≤ length file.now) × (count ≤ 4294967295) }
-    ensures { (result.fine ≡ all_known (events_of count (drop 72 file.now))) × (result.total ≡ sack_total (events_of count (drop 72 file.now))) }
+    ensures { result ≡ known_total (events_of count (drop 72 file.now)) }
 {
-    let mut fine = true;
     let mut total: u64 = 0;
-    let mut i: usize = 0;
-    while i < count {
+    for i in 0..count {
         let event = read_event(file, EVENTS + Event::SIZE * i);
-        fine = fine & event.is_known();
-        total = total + wide(event.sack_size());
-        i += 1;
+        if !event.is_known() {
+            return None;
+        }
+        total += u64::from(event.sack_size());
     }
-    Walk { fine, total }
+    Some(total)
 }
 
-// Three sections that fill the file, the settings' count, the initial number, each event and the sum
-// of the SACK byte counts.
-pub(crate) fn check(file: &[u8]) -> Checked
+// Where they are, if the file is a session (else 20): three sections that fill the file, the
+// settings' count, the initial number, each event and the sum of the SACK byte counts.
+pub(crate) fn check(file: &[u8]) -> Option<Layout>
     ensures { checked result ≡ check_of file.now }
 {
     if file.len() < EVENTS {
-        return Checked::BadSession;
+        return None;
     }
-    if read32(file, 0) != 8 {
-        return Checked::BadSession;
+    if count_at(file, 0) != 8 {
+        return None;
     }
-    if 65535 < read64(file, 4) {
-        return Checked::BadSession;
+    if 65535 < setting(file, 0) {
+        return None;
     }
-    let count = read32(file, 68);
+    let count = count_at(file, 68);
     let end = EVENTS + Event::SIZE * (count as usize);
     if file.len() < end + 4 {
-        return Checked::BadSession;
+        return None;
     }
-    let sack = read32(file, end);
+    let sack = count_at(file, end);
     if file.len() - (end + 4) != sack as usize {
-        return Checked::BadSession;
+        return None;
     }
-    let walk = walked(file, count as usize);
-    if !walk.fine {
-        return Checked::BadSession;
+    let total = walked(file, count as usize)?;
+    if total != u64::from(sack) {
+        return None;
     }
-    if walk.total != sack as u64 {
-        return Checked::BadSession;
-    }
-    Checked::Good(Layout {
+    Some(Layout {
         count,
         sack_at: end + 4,
     })

@@ -1,10 +1,33 @@
 // One event of a recorded session.
 ghost use Rattle.std.specs.Prelude.{◌+◌, ◌≤◌, ◌≡◌, length, drop};
-ghost use Rattle.session.specs.Format.{event_of, is_ack, is_known, sack_size};
+ghost use Rattle.session.specs.Format.{event_of, is_known, sack_size, kind_of};
 
-use crate::number::{read8, read16, read32, read64};
+use crate::number::bytes_at;
 
-// `size` is the length of a transmit, or the SACK byte count of an ack.
+// What an event is.
+#[derive(Clone, Copy)]
+pub(crate) enum Kind {
+    Transmit,
+    Ack,
+    Timeout,
+}
+
+impl Kind {
+    // The kind of a number, if it is one's.
+    pub(crate) fn of_number(number: u8) -> Option<Kind>
+        ensures { result ≡ kind_of number }
+    {
+        match number {
+            1 => Some(Kind::Transmit),
+            2 => Some(Kind::Ack),
+            3 => Some(Kind::Timeout),
+            _ => None,
+        }
+    }
+}
+
+// An event as the file has it, of any kind's number and any type's. `size` is the length of a
+// transmit, or the SACK byte count of an ack.
 #[derive(Clone, Copy)]
 pub struct Event {
     pub kind: u8,
@@ -23,27 +46,21 @@ impl Event {
     pub(crate) fn is_known(self) -> bool
         ensures { result ≡ is_known self }
     {
-        if self.kind == 1 {
-            return self.packet_type <= 4;
+        match Kind::of_number(self.kind) {
+            Some(Kind::Transmit) => self.packet_type <= 4,
+            Some(Kind::Ack) | Some(Kind::Timeout) => true,
+            None => false,
         }
-        if self.kind == 2 {
-            return true;
-        }
-        self.kind == 3
     }
 
-    // Does it use up SACK bytes? Each ack does, refused or not.
-    fn uses_sack(self) -> bool
-        ensures { result ≡ is_ack self }
-    {
-        self.kind == 2
-    }
-
-    // How many SACK bytes it uses up.
+    // How many SACK bytes it uses up: each ack its own, refused or not.
     pub(crate) fn sack_size(self) -> u32
         ensures { result ≡ sack_size self }
     {
-        if self.uses_sack() { self.size } else { 0 }
+        match Kind::of_number(self.kind) {
+            Some(Kind::Ack) => self.size,
+            _ => 0,
+        }
     }
 }
 
@@ -53,11 +70,11 @@ pub(crate) fn read_event(file: &[u8], at: usize) -> Event
     ensures { result ≡ event_of (drop at file.now) }
 {
     Event {
-        kind: read8(file, at),
-        packet_type: read8(file, at + 1),
-        number: read16(file, at + 2),
-        size: read32(file, at + 4),
-        clock: read64(file, at + 8),
-        delay: read64(file, at + 16),
+        kind: file[at],
+        packet_type: file[at + 1],
+        number: u16::from_be_bytes(bytes_at(file, at + 2)),
+        size: u32::from_be_bytes(bytes_at(file, at + 4)),
+        clock: u64::from_be_bytes(bytes_at(file, at + 8)),
+        delay: u64::from_be_bytes(bytes_at(file, at + 16)),
     }
 }

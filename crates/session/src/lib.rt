@@ -1,5 +1,5 @@
-// A recorded sender session (document 02, No. 3): the file read and checked, one event's step, and the
-// text of a line.
+// A recorded sender session (document 02, No. 3): the file read and checked, one event's step, and
+// the text of a line.
 
 #![tactic(auto)]
 

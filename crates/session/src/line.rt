@@ -1,12 +1,11 @@
 // What is printed: the line of an event, or the one line of a refused file.
-ghost use Rattle.std.specs.Prelude.{◌+◌, ◌≤◌, ◌≡◌, length, ◌++◌, ◌∷◌, [], leb};
+ghost use Rattle.std.specs.Prelude.{ℕ, List, ◌+◌, ◌≤◌, ◌≡◌, length, ◌++◌, ◌∷◌, [], leb};
 ghost use Rattle.common.specs.Laws.Put.{put};
 ghost use Rattle.session.specs.Lines.{decimal, line_text, bad_text};
 ghost use Rattle.session.specs.Answers.{written, wrote_of, pair_text, bad_number};
 
-use crate::number::wide64;
-
-// An event's index, the answer's number, and what the tracker then shows.
+// An event's index, the number of the answer as it is printed, 0 for done, and what the tracker
+// then shows.
 #[derive(Clone, Copy)]
 pub struct Line {
     pub index: u64,
@@ -24,35 +23,27 @@ pub enum Bad {
     BadSetting,
 }
 
-// The place behind what was written, or too little room (9).
+// There is too little room for a line (9).
 #[derive(Clone, Copy)]
-pub enum Written {
-    Behind(usize),
-    NoRoom,
-}
+pub struct NoRoom;
 
-// The character of a digit.
-fn digit(n: u64) -> u8
-    requires { n ≤ 9 }
-    ensures { result ≡ 48 + n }
-{
-    48 + (n as u8)
-}
-
-// Writes a number's decimal digits from a place on, and answers the place behind them.
+// Writes a number's decimal digits from a place on, and answers the place behind them. Not by
+// Display: no clause of std says that a write into a room that is large enough succeeds, and this
+// may not fail.
 fn put_decimal(room: &mut [u8], at: usize, n: u64) -> usize
     requires { at + length (decimal n) ≤ length room.old }
     ensures { (result ≡ at + length (decimal n)) × (room.new ≡ put room.old at (decimal n)) }
 {
     if n < 10 {
-        room[at] = digit(n);
+        room[at] = b'0' + (n as u8);
         return at + 1;
     }
     let place = put_decimal(room, at, n / 10);
-    room[place] = digit(n % 10);
+    room[place] = b'0' + ((n % 10) as u8);
     place + 1
 }
 
+// (Here and below `room, at` are handed on: the public `put` takes them, and there is no heap.)
 // Writes a number and the character behind it, and answers the place behind both.
 fn put_field(room: &mut [u8], at: usize, n: u64, end: u8) -> usize
     requires { at + 21 ≤ length room.old }
@@ -76,40 +67,54 @@ fn put_pair(room: &mut [u8], at: usize, n: u64, m: u64, end: u8) -> usize
 pub(crate) fn has_room(length: usize, at: usize) -> bool
     ensures { result ≡ leb (at + 126) length }
 {
-    if length < Line::LONGEST {
-        return false;
+    Line::LONGEST <= length.saturating_sub(at)
+}
+
+// What is written in one piece, of at most Line::LONGEST bytes.
+pub(crate) trait Text: Copy {
+    ghost text: { Self → List ℕ };
+
+    // Writes the text where there is room for it, and answers the place behind it.
+    fn put_text(self, room: &mut [u8], at: usize) -> usize
+        requires { at + 126 ≤ length room.old }
+        ensures { (result ≡ at + length (text self)) × (room.new ≡ put room.old at (text self)) };
+}
+
+// Writes a text into the room from a place on, where there is room for the longest line.
+fn put_whole<T: Text>(text: T, room: &mut [u8], at: usize) -> Result<usize, NoRoom>
+    ensures { (written result, room.new) ≡ wrote_of room.old at (T.text text) }
+{
+    if !has_room(room.len(), at) {
+        return Err(NoRoom);
     }
-    at <= length - Line::LONGEST
+    Ok(text.put_text(room, at))
 }
 
 impl Line {
     // Six numbers of 20 digits, with a character behind each.
     pub const LONGEST: usize = 126;
 
-    // Writes the line's text where there is room for it.
-    pub(crate) fn put_text(self, room: &mut [u8], at: usize) -> usize
-        requires { at + 126 ≤ length room.old }
-        ensures { (result ≡ at + length (line_text self)) × (room.new ≡ put room.old at (line_text self)) }
+    // Writes the line into the room from a place on, and answers the place behind it. Refused with
+    // 9 where there is not room for the longest line; nothing is then written.
+    pub fn put(self, room: &mut [u8], at: usize) -> Result<usize, NoRoom>
+        ensures { (written result, room.new) ≡ wrote_of room.old at (line_text self) }
     {
+        put_whole(self, room, at)
+    }
+}
+
+impl Text for Line {
+    ghost text = { line_text };
+
+    fn put_text(self, room: &mut [u8], at: usize) -> usize {
         let a = put_pair(room, at, self.index, self.answer, b' ');
         let b = put_pair(room, a, self.in_flight, self.maximum, b' ');
         put_pair(room, b, self.timeout, self.lost, b'\n')
     }
-
-    // Writes the line into the room from a place on. Refused with 9 where there is not room for the
-    // longest line; nothing is then written.
-    pub fn put(self, room: &mut [u8], at: usize) -> Written
-        ensures { (written result, room.new) ≡ wrote_of room.old at (line_text self) }
-    {
-        if !has_room(room.len(), at) {
-            return Written::NoRoom;
-        }
-        Written::Behind(self.put_text(room, at))
-    }
 }
 
 impl Bad {
-    // The number of the refusal.
+    // The number of the refusal. A method and no `From`: docs/PROMISES.md promises `number`.
     pub fn number(self) -> u32
         ensures { result ≡ bad_number self }
     {
@@ -119,25 +124,19 @@ impl Bad {
         }
     }
 
-    // Writes the text of a refused file where there is room for it.
-    fn put_text(self, room: &mut [u8], at: usize) -> usize
-        requires { at + 126 ≤ length room.old }
-        ensures { (result ≡ at + length (bad_text (bad_number self))) × (room.new ≡ put room.old at (bad_text (bad_number self))) }
-    {
-        room[at] = b'b';
-        room[at + 1] = b'a';
-        room[at + 2] = b'd';
-        room[at + 3] = b' ';
-        put_field(room, at + 4, wide64(self.number()), b'\n')
-    }
-
     // Writes the one line of a refused file. Refused with 9 as a line is.
-    pub fn put(self, room: &mut [u8], at: usize) -> Written
+    pub fn put(self, room: &mut [u8], at: usize) -> Result<usize, NoRoom>
         ensures { (written result, room.new) ≡ wrote_of room.old at (bad_text (bad_number self)) }
     {
-        if !has_room(room.len(), at) {
-            return Written::NoRoom;
-        }
-        Written::Behind(self.put_text(room, at))
+        put_whole(self, room, at)
+    }
+}
+
+impl Text for Bad {
+    ghost text = { λ bad. bad_text (bad_number bad) };
+
+    fn put_text(self, room: &mut [u8], at: usize) -> usize {
+        room[at..at + 4].copy_from_slice(b"bad ");
+        put_field(room, at + 4, u64::from(self.number()), b'\n')
     }
 }

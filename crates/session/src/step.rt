@@ -1,51 +1,39 @@
 // A step of a replay: the next event is taken.
-ghost use Rattle.std.specs.Prelude.{◌+◌, ◌≤◌, ◌<◌, ◌≡◌, leb, length};
-ghost use Rattle.common.specs.Answer.{done};
+ghost use Rattle.std.specs.Prelude.{◌+◌, ◌≤◌, ◌<◌, ◌≡◌, length, take, drop, eqb, MatchOption};
+ghost use Rattle.outgoing.specs.Answers.{outcome};
 ghost use Rattle.sent.specs.Answers.{told};
 ghost use Rattle.session.specs.Format.{sack_size};
-ghost use Rattle.session.specs.Replay.{found, event_at, stepped, event_state, shown_of, taken_of, step_of, step_answer};
+ghost use Rattle.session.specs.Lines.{number_of};
+ghost use Rattle.session.specs.Replay.{found, event_at, stepped, event_state, shown_of, taken_of, step_answer};
 
 use crate::answer::{answer_number, value_of};
 use crate::check::EVENTS;
-use crate::event::{Event, read_event};
+use crate::event::{Event, Kind, read_event};
 use crate::line::Line;
-use crate::replay::{Replay, StepReason, Stepped, Told};
+use crate::replay::{Replay, StepReason, Stepped};
+use outgoing::answer::{Outcome, Reason};
 use outgoing::lost::type_of;
-use packet::extension::Part;
 use sent::answer::Tracked;
 use sent::state::SentPackets;
 use seq::SeqNum;
 
-// An event of the file, if it is there and known.
-#[derive(Clone, Copy)]
-enum Found {
-    Known(Event),
-    BadSession,
-}
-
-// The event of an index.
-fn find_event(file: &[u8], index: u32) -> Found
+// The event of an index, if it is in the file and known.
+fn find_event(file: &[u8], index: u32) -> Option<Event>
     ensures { found result ≡ event_at file.now index }
 {
     let at = EVENTS + Event::SIZE * (index as usize);
     if file.len() < at + Event::SIZE {
-        return Found::BadSession;
+        return None;
     }
     let event = read_event(file, at);
-    if !event.is_known() {
-        return Found::BadSession;
-    }
-    Found::Known(event)
+    event.is_known().then_some(event)
 }
 
-// Are so many bytes there from a place on?
-fn holds(length: usize, at: usize, size: usize) -> bool
-    ensures { result ≡ leb (at + size) length }
+// So many bytes from a place on, if the file has them.
+fn bytes_from(file: &[u8], at: usize, size: usize) -> Option<&[u8]>
+    ensures { MatchOption result (length file.now < at + size) (λ s. (at + size ≤ length file.now) × (s.now ≡ take size (drop at file.now))) }
 {
-    if length < at {
-        return false;
-    }
-    size <= length - at
+    file.get(at..)?.get(..size)
 }
 
 // What the tracker answers to an event. The tag is the event's index.
@@ -53,14 +41,21 @@ fn applied(state: SentPackets, index: u32, event: Event, sack: &[u8]) -> Tracked
     ensures { told result ≡ event_state state index event sack.now }
 {
     let number = SeqNum(event.number);
-    if event.kind == 1 {
-        let packet_type = type_of(event.packet_type);
-        return state.on_transmit(number, packet_type, index, event.size, event.clock);
+    match Kind::of_number(event.kind) {
+        Some(Kind::Transmit) => {
+            let packet_type = type_of(event.packet_type);
+            state.on_transmit(number, packet_type, index, event.size, event.clock)
+        }
+        Some(Kind::Ack) => state.on_ack(number, sack, event.delay, event.clock),
+        Some(Kind::Timeout) | None => state.on_timeout(),
     }
-    if event.kind == 2 {
-        return state.on_ack(number, sack, event.delay, event.clock);
-    }
-    state.on_timeout()
+}
+
+// Is a call refused since the tracker is not sound?
+fn is_unsound(answer: Outcome) -> bool
+    ensures { result ≡ eqb (number_of (outcome answer)) 19 }
+{
+    matches!(answer, Outcome::Refused(Reason::NotSound))
 }
 
 // What is shown of the tracker after an event.
@@ -69,10 +64,10 @@ fn shown(index: u32, answer: u64, state: SentPackets) -> Line
 {
     let numbers = state.numbers;
     Line {
-        index: index as u64,
+        index: u64::from(index),
         answer,
-        in_flight: numbers.in_flight as u64,
-        maximum: numbers.maximum as u64,
+        in_flight: u64::from(numbers.in_flight),
+        maximum: u64::from(numbers.maximum),
         timeout: numbers.timeout,
         lost: value_of(state.lost_count()),
     }
@@ -83,46 +78,23 @@ fn taken(replay: Replay, event: Event, sack: &[u8]) -> Stepped
     requires { (replay.index < replay.count) × (replay.sack_at + sack_size event ≤ 18446744073709551615) }
     ensures { stepped result ≡ taken_of replay event sack.now }
 {
-    let index = replay.index;
-    let state = replay.state;
-    let tracked = applied(state, index, event, sack);
-    let outcome = tracked.answer;
-    let answer = answer_number(outcome);
-    if answer == 19 {
+    let tracked = applied(replay.state, replay.index, event, sack);
+    if is_unsound(tracked.answer) {
         return Stepped {
-            told: Told::Refused(StepReason::NotSound),
+            told: Err(StepReason::NotSound),
             replay,
         };
     }
-    let next = tracked.state;
-    let line = shown(index, answer, next);
-    let behind = Replay {
-        index: index + 1,
-        count: replay.count,
-        sack_at: replay.sack_at + (event.sack_size() as usize),
-        state: next,
-    };
+    let line = shown(replay.index, answer_number(tracked.answer), tracked.state);
     Stepped {
-        told: Told::Event(line),
-        replay: behind,
+        told: Ok(Some(line)),
+        replay: Replay {
+            index: replay.index + 1,
+            sack_at: replay.sack_at + (event.sack_size() as usize),
+            state: tracked.state,
+            ..replay
+        },
     }
-}
-
-// An event whose SACK bytes have still to be found.
-fn found_step(replay: Replay, event: Event, file: &[u8]) -> Stepped
-    requires { replay.index < replay.count }
-    ensures { stepped result ≡ step_of file.now replay (done event) }
-{
-    let at = replay.sack_at;
-    let len = event.sack_size() as usize;
-    if !holds(file.len(), at, len) {
-        return Stepped {
-            told: Told::Refused(StepReason::BadSession),
-            replay,
-        };
-    }
-    let part = Part { at, len };
-    taken(replay, event, part.bytes(file))
 }
 
 impl Replay {
@@ -130,20 +102,25 @@ impl Replay {
     pub fn step(self, file: &[u8]) -> Stepped
         ensures { stepped result ≡ step_answer file.now self }
     {
-        let index = self.index;
-        if self.count <= index {
+        if self.count <= self.index {
             return Stepped {
-                told: Told::Ended,
+                told: Ok(None),
                 replay: self,
             };
         }
-        let found = find_event(file, index);
-        match found {
-            Found::BadSession => Stepped {
-                told: Told::Refused(StepReason::BadSession),
+        let Some(event) = find_event(file, self.index) else {
+            return Stepped {
+                told: Err(StepReason::BadSession),
                 replay: self,
-            },
-            Found::Known(event) => found_step(self, event, file),
-        }
+            };
+        };
+        let size = event.sack_size() as usize;
+        let Some(sack) = bytes_from(file, self.sack_at, size) else {
+            return Stepped {
+                told: Err(StepReason::BadSession),
+                replay: self,
+            };
+        };
+        taken(self, event, sack)
     }
 }

@@ -1,111 +1,109 @@
-// The book of a run: all its numbers in one array, which is lent to each call.
-pub type Book = [u64; 128];
+// The book of a run: how it goes on, what the channel holds, and what was told and counted.
+use crate::channel::{Channel, Held, PutError};
+use crate::counts::{Counts, add};
+use crate::plan::{Plan, key, next};
+use crate::refusal::Refusal;
+use crate::step::Way;
+use crate::told::Told;
+use packet::decode::{Decoded, Packet};
+use packet::header::Header;
+use packet::kind::PacketType;
 
-// What the run is set up with. So many packets are to be sent as `TO_SEND` says, with payloads of up to
-// `MOST` bytes, to a receiver with a buffer of `LENGTH` bytes. The channel holds up to `DEPTH`
-// datagrams. Of 16 that it hands out it loses `LOSSES` and repeats `REPEATS`. One ack in `PATIENCE` + 1
-// is built, and one timeout in `CALM` + 1 comes. Where `IS_FIXED` is 1 the steps are those of
-// script.rt, else they are drawn.
-pub const SEED: usize = 0;
+#[derive(Drop)]
+pub(crate) struct Book {
+    pub plan: Plan,
+    // The number that was drawn last.
+    pub drawn: u64,
+    pub clock: u64,
+    pub channel: Channel,
+    // What the step told.
+    pub told: Told,
+    pub counts: Counts,
+}
 
-pub const INITIAL: usize = 1;
+// A packet that the channel hands over, with its datagram, by a clock that is so far back.
+#[derive(Clone, Copy)]
+pub(crate) struct Handed {
+    pub packet: Packet,
+    pub held: Held,
+    pub back: u64,
+}
 
-pub const TO_SEND: usize = 2;
-
-pub const MOST: usize = 3;
-
-pub const LENGTH: usize = 4;
-
-pub const LARGEST: usize = 5;
-
-pub const DEPTH: usize = 6;
-
-pub const LOSSES: usize = 7;
-
-pub const REPEATS: usize = 8;
-
-pub const PATIENCE: usize = 9;
-
-pub const CALM: usize = 10;
-
-pub const IS_FIXED: usize = 11;
-
-// How it goes on: the number that was drawn last, the clock, and which byte is to be read next: byte
-// `AT` of the payload of offset `WANT`. How it ended is a line of the verdicts in run.rt.
-pub const DRAWN: usize = 12;
-
-pub const CLOCK: usize = 13;
-
-pub const WANT: usize = 14;
-
-pub const AT: usize = 15;
-
-pub const VERDICT: usize = 16;
-
-// What a step told: a line of words.rt, and its numbers.
-pub const TOLD: usize = 17;
-
-pub const FIRST: usize = 18;
-
-pub const SECOND: usize = 19;
-
-// What is counted, to be summed up over the runs: from here to the lengths. From `REFUSED` on there is
-// a count for each answer number.
-pub const COUNTED: usize = 20;
-
-pub const PACKETS: usize = 20;
-
-pub const LOST: usize = 21;
-
-pub const REPEATED: usize = 22;
-
-pub const AGAIN: usize = 23;
-
-pub const REFUSALS: usize = 24;
-
-pub const BYTES_IN: usize = 25;
-
-pub const BYTES_OUT: usize = 26;
-
-pub const WRONG: usize = 27;
-
-pub const RUNS: usize = 28;
-
-pub const DIFFER: usize = 29;
-
-pub const REFUSED: usize = 32;
-
-// How many bytes the datagram at each of the channel's 64 places has; 0 where there is none.
-pub const LENGTHS: usize = 64;
-
-// Adds to a number of the book.
-pub(crate) fn add(book: &mut Book, place: usize, n: u64) {
-    if place < 128 {
-        book[place] = std::num::wrapping_add_u64(book[place], n);
+impl Book {
+    // Before the first step.
+    pub fn new(plan: Plan) -> Self {
+        Self {
+            plan,
+            drawn: key(plan.seed, 0),
+            clock: 1000000,
+            channel: Channel::new(),
+            told: Told::Nothing,
+            counts: Counts::new(),
+        }
     }
-}
 
-// Counts a refusal.
-pub(crate) fn refuse(book: &mut Book, answer: u64) {
-    add(book, REFUSALS, 1);
-    add(book, REFUSED + (answer % 32) as usize, 1);
-}
+    // Time goes on, a number is drawn, and nothing is told yet.
+    pub fn go_on(&mut self) {
+        self.drawn = next(self.drawn);
+        self.clock = self.clock.wrapping_add(self.drawn / 65536 % 20000);
+        self.told = Told::Nothing;
+    }
 
-// Notes what a step told.
-pub(crate) fn tell(book: &mut Book, told: u64, first: u64, second: u64) {
-    book[TOLD] = told;
-    book[FIRST] = first;
-    book[SECOND] = second;
-}
+    // Notes what a step told, and counts a refusal.
+    pub fn tell(&mut self, told: Told) {
+        self.told = told;
+        if let Some(refusal) = told.refusal() {
+            self.counts.refuse(refusal);
+        }
+    }
 
-// Notes and counts a refusal, of a packet's or an ack's number.
-pub(crate) fn tell_refused(book: &mut Book, told: u64, number: u64, answer: u64) {
-    tell(book, told, number, answer);
-    refuse(book, answer);
-}
+    // A packet goes into the channel. Where all places are held it is lost; what the writer refuses
+    // is counted.
+    pub fn put(&mut self, header: Header, sack: &[u8], payload: &[u8]) {
+        let depth = self.plan.depth;
+        match self.channel.put(depth, header, sack, payload) {
+            Ok(()) => {}
+            Err(PutError::Full) => add(&mut self.counts.lost, 1),
+            Err(PutError::Refused(refusal)) => self.counts.refuse(refusal),
+        }
+    }
 
-// Notes and counts a refusal of a call without a number.
-pub(crate) fn tell_answer(book: &mut Book, told: u64, answer: u64) {
-    tell(book, told, answer, 0);
-    refuse(book, answer);
+    // The channel does something with the first datagram from the place `start` on. It stays there,
+    // or leaves it.
+    pub fn pass(&mut self, way: Way, start: u64) -> Option<Handed> {
+        let held = self.channel.pick(start)?;
+        match way {
+            Way::Repeat => add(&mut self.counts.repeated, 1),
+            Way::Hand(_) | Way::Lose => self.channel.free(held),
+        }
+        match Packet::decode(self.channel.bytes(held)) {
+            Decoded::Accepted(packet) => self.go(way, packet, held),
+            Decoded::Undecoded(why) => {
+                self.tell(Told::Undecoded(Refusal::from(why)));
+                None
+            }
+        }
+    }
+
+    // A packet goes a way.
+    fn go(&mut self, way: Way, packet: Packet, held: Held) -> Option<Handed> {
+        let back = match way {
+            Way::Hand(back) => back,
+            Way::Repeat => 0,
+            Way::Lose => {
+                self.lose(packet.header);
+                return None;
+            }
+        };
+        Some(Handed { packet, held, back })
+    }
+
+    // A packet is lost. An ack is a State.
+    fn lose(&mut self, header: Header) {
+        add(&mut self.counts.lost, 1);
+        self.tell(match header.packet_type {
+            PacketType::State => Told::LostAck(header.ack_num),
+            _ => Told::LostPacket(header.seq_num),
+        });
+    }
 }

@@ -1,94 +1,103 @@
-// The channel: a ring of places for datagrams, 1,024 bytes of lent memory each; the book has their
-// lengths. Datagrams stay in it until they are taken out, in any order, any number of times, or never.
-use crate::book::{Book, DEPTH, LENGTHS, LOST, add, refuse};
+// The channel: places for datagrams of up to 1,024 bytes. Datagrams stay in it until they are taken
+// out, in any order, any number of times, or never.
+use crate::refusal::Refusal;
 use packet::decode::Packet;
 use packet::encode::Encoded;
-use packet::extension::Part;
 use packet::header::Header;
+use report::text::front;
 
-// The memory of the 64 places.
-pub type Memory = [u8; 65536];
-
-// The first free place below the depth, or 64.
-fn free(book: &Book) -> usize {
-    let depth = book[DEPTH];
-    for place in 0..64 {
-        if place as u64 >= depth {
-            return 64;
-        }
-        if book[LENGTHS + place] == 0 {
-            return place;
-        }
-    }
-    64
+// (Fixed room and no Vec: a packet is never lost for want of memory.)
+#[derive(Clone, Copy)]
+struct Place {
+    room: [u8; 1024],
+    // How many bytes the datagram has, if there is one.
+    length: Option<usize>,
 }
 
-// The first place that holds a datagram, from `start` on and round, or 64.
-pub(crate) fn pick(book: &Book, start: u64) -> usize {
-    for i in 0..64 {
-        let place = ((start % 64) as usize + i) % 64;
-        if book[LENGTHS + place] != 0 {
-            return place;
-        }
-    }
-    64
+#[derive(Drop)]
+pub(crate) struct Channel {
+    places: [Place; 64],
 }
 
-// The place has a datagram of so many bytes, or with 0 none.
-pub(crate) fn note(book: &mut Book, place: usize, length: u64) {
-    if place < 64 {
-        book[LENGTHS + place] = length;
-    }
-}
-
-// Where the datagram at a place stands in the memory.
-pub(crate) fn part(book: &Book, place: usize) -> Part {
-    if place < 64 {
-        Part {
-            at: place * 1024,
-            len: (book[LENGTHS + place] % 65536) as usize,
-        }
-    } else {
-        Part { at: 0, len: 0 }
-    }
-}
-
-// Writes a packet into the channel. Where all places are held it is lost; what the writer refuses is
-// counted.
-pub(crate) fn put(
-    book: &mut Book,
-    memory: &mut Memory,
-    header: Header,
-    sack: &[u8],
-    payload: &[u8],
-) {
-    let place = free(book);
-    if place >= 64 {
-        add(book, LOST, 1);
-        return;
-    }
-    match encoded(memory, place, header, sack, payload) {
-        Encoded::Written(size) => note(book, place, (size % 65536) as u64),
-        Encoded::Refused(why) => refuse(book, why.number() as u64),
-    }
-}
-
-// Writes a packet at a place of the memory, and past the last place nowhere.
-fn encoded(
-    memory: &mut [u8],
+// Where a datagram stands, and how many bytes it has.
+// (A place and no reference: it stays in the channel until it is taken out.)
+#[derive(Clone, Copy)]
+pub(crate) struct Held {
     place: usize,
-    header: Header,
-    sack: &[u8],
-    payload: &[u8],
-) -> Encoded {
-    if place >= 64 {
-        return Encoded::Written(0);
+    length: usize,
+}
+
+// Why a packet is not put into the channel: all places are held, or the writer refuses it.
+#[derive(Clone, Copy)]
+pub(crate) enum PutError {
+    Full,
+    Refused(Refusal),
+}
+
+impl Place {
+    // Writes a packet.
+    fn put(&mut self, header: Header, sack: &[u8], payload: &[u8]) -> Result<(), PutError> {
+        match Packet::encode(header, sack, payload, &mut self.room) {
+            Encoded::Written(size) => {
+                self.length = Some(size);
+                Ok(())
+            }
+            Encoded::Refused(why) => Err(PutError::Refused(Refusal::from(why))),
+        }
     }
-    let at = place * 1024;
-    let end = at + 1024;
-    if end <= memory.len() {
-        Packet::encode(header, sack, payload, &mut memory[at..end])
-    } else {
-        Encoded::Written(0)
+}
+
+impl Channel {
+    pub fn new() -> Self {
+        let free = Place {
+            room: [0; 1024],
+            length: None,
+        };
+        Self { places: [free; 64] }
+    }
+
+    // Writes a packet at the first free place of so many.
+    pub fn put(
+        &mut self,
+        depth: usize,
+        header: Header,
+        sack: &[u8],
+        payload: &[u8],
+    ) -> Result<(), PutError> {
+        for place in self.places.iter_mut().take(depth) {
+            if place.length.is_none() {
+                return place.put(header, sack, payload);
+            }
+        }
+        Err(PutError::Full)
+    }
+
+    // The datagram at a place, if there is one.
+    fn held(&self, place: usize) -> Option<Held> {
+        let length = self.places.get(place)?.length?;
+        Some(Held { place, length })
+    }
+
+    // The first datagram from the place `start` on and round.
+    pub fn pick(&self, start: u64) -> Option<Held> {
+        let first = (start % 64) as usize;
+        (first..64)
+            .chain(0..first)
+            .find_map(|place| self.held(place))
+    }
+
+    // The bytes of a datagram, which stay until the next one is put.
+    pub fn bytes(&self, held: Held) -> &[u8] {
+        match self.places.get(held.place) {
+            Some(place) => front(&place.room, held.length),
+            None => b"",
+        }
+    }
+
+    // Takes a datagram out.
+    pub fn free(&mut self, held: Held) {
+        if let Some(place) = self.places.get_mut(held.place) {
+            place.length = None;
+        }
     }
 }

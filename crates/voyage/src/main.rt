@@ -1,92 +1,81 @@
 // Both ends of the port, and a channel between them that loses, repeats, delays and reorders real
-// datagrams. First a run of fixed steps, printed step by step; then 240 seeded runs, a line each; then
-// a line of totals, which says of how many runs the bytes differ. Every byte that is read is compared
-// with the one that was sent. With a seed as its argument it prints that run alone, step by step.
+// datagrams. First a run of fixed steps, printed step by step; then 240 seeded runs, a line each;
+// then a line of totals, which says of how many runs the bytes differ. Every byte that is read is
+// compared with the one that was sent. With a seed as its argument it prints that run alone, step
+// by step.
 
 #![tactic(auto)]
 
 mod book;
 mod channel;
+mod counts;
 mod plan;
 mod receiver;
+mod refusal;
 mod run;
 mod script;
 mod sender;
 mod step;
-mod words;
+mod told;
+mod totals;
+mod tracker;
 
-use book::Book;
+use plan::Plan;
 use report::text::front;
-use run::{add_all, print_run, print_totals};
+use run::Ended;
 use std::env::{Env, FillError};
 use std::io::Result;
+use step::drawn_step;
+use totals::Totals;
 
 // The seeded runs.
 const LAST_SEED: u64 = 240;
 
-// A run, and its line.
-fn run_of(rt: &impl Print, book: &mut Book, name: &[u8], is_shown: bool) -> Result<()> {
-    run::run(rt, book, is_shown)?;
-    print_run(rt, book, name)
+// The run of a seed, and its line.
+fn seeded(rt: &impl Print, seed: u64, is_shown: bool) -> Result<Ended> {
+    let run = run::run(
+        rt,
+        Plan::of_seed(seed),
+        |book, _| drawn_step(book),
+        is_shown,
+    )?;
+    println!(rt; "{run}")?;
+    Ok(run)
 }
 
-// The run of a seed, in the totals.
-fn seeded(rt: &impl Print, totals: &mut Book, seed: u64) -> Result<()> {
-    let mut book = plan::of_seed(seed);
-    run_of(rt, &mut book, b"seed # from #:", false)?;
-    add_all(totals, &book);
-    Ok(())
-}
-
-// The seeded runs, in the totals.
-fn all(rt: &impl Print, totals: &mut Book) -> Result<()> {
-    for seed in 1..LAST_SEED + 1 {
-        seeded(rt, totals, seed)?;
-    }
-    Ok(())
-}
-
-// One more digit of a number of up to nine digits; what is no digit changes nothing.
-fn with_digit(n: u64, byte: u8) -> u64 {
-    if byte < 48 {
-        return n;
-    }
-    if byte > 57 {
-        return n;
-    }
-    n % 100000000 * 10 + (byte - 48) as u64
-}
-
-fn number(digits: &[u8]) -> u64 {
-    let mut n: u64 = 0;
-    let mut i: usize = 0;
-    while i < digits.len() {
-        n = with_digit(n, digits[i]);
-        i += 1;
-    }
-    n
-}
-
-// The run of a seed that is given in digits, step by step.
-fn shown(rt: &impl Print, digits: &[u8]) -> Result<()> {
-    let mut book = plan::of_seed(number(digits));
-    run_of(rt, &mut book, b"seed # from #:", true)
+// The run of fixed steps, step by step, and its line.
+fn fixed(rt: &impl Print) -> Result<Ended> {
+    let run = run::run(rt, script::plan(), |_, index| script::step_at(index), true)?;
+    println!(rt; "fixed steps, {run}")?;
+    Ok(run)
 }
 
 // The fixed steps, the seeded runs and the totals.
 fn whole(rt: &impl Print) -> Result<()> {
-    let mut totals = script::plan();
-    run_of(rt, &mut totals, b"fixed steps, seed # from #:", true)?;
-    all(rt, &mut totals)?;
-    print_totals(rt, &totals)
+    let mut totals = Totals::new();
+    totals.add(&fixed(rt)?);
+    for seed in 1..=LAST_SEED {
+        totals.add(&seeded(rt, seed, false)?);
+    }
+    println!(rt; "{totals}")
+}
+
+// The number of the digits, of which up to nine count; what is no digit changes nothing.
+fn number(digits: &[u8]) -> u64 {
+    digits
+        .iter()
+        .filter_map(|byte| char::from(*byte).to_digit(10))
+        .fold(0, |n, digit| n % 100000000 * 10 + u64::from(digit))
 }
 
 fn main(rt: HostRuntime) -> Result<()> {
-    let mut word = io::buffer();
-    match rt.arg(1, &mut word) {
-        Ok(length) => shown(&rt, front(&word, length)),
+    let mut word = [0u8; 4096];
+    let digits = match rt.arg(1, &mut word) {
+        Ok(length) => front(&word, length),
         // Of an argument that does not fit nothing is taken.
-        Err(FillError::TooLong) => shown(&rt, b""),
-        Err(FillError::NotPresent) => whole(&rt),
-    }
+        Err(FillError::TooLong) => b"",
+        Err(FillError::NotPresent) => return whole(&rt),
+    };
+    seeded(&rt, number(digits), true)?;
+    Ok(())
 }

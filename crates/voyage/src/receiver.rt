@@ -1,204 +1,154 @@
 // What the receiver does: payloads that arrive, reads, and acks that it builds.
-use crate::book::{
-    AT, BYTES_OUT, Book, CLOCK, DRAWN, SEED, WANT, WRONG, add, tell, tell_answer, tell_refused,
-};
-use crate::channel::{Memory, put};
-use crate::plan::{byte_of, key, size_of};
-use crate::step::Step;
-use crate::words::{BUILT, READ, UNBUILT, UNREAD, UNWRITTEN, WAITS, WROTE, WROTE_AGAIN};
+use crate::book::Book;
+use crate::counts::add;
+use crate::plan::{Plan, byte_of};
+use crate::refusal::Refusal;
+use crate::told::Told;
 use packet::decode::Packet;
-use packet::extension::Part;
 use packet::header::Header;
 use packet::kind::PacketType;
-use recv::{Count, Number, ReceiveBuffer, Writing};
+use recv::{ReceiveBuffer, Writing};
 use report::text::front;
 use seq::SeqNum;
 
-// The number that an answer has, or what no number is.
-fn number_of(answer: Number) -> u64 {
-    match answer {
-        Number::Is(number) => number.0 as u64,
-        Number::Refused(_) => 65536,
+// The receiver, with the buffer that is lent to it, and which byte is to be read next: byte `at` of
+// the payload of `offset`.
+#[derive(Drop)]
+pub(crate) struct Receiver<'a> {
+    state: ReceiveBuffer,
+    buffer: &'a mut [u8],
+    offset: u32,
+    at: usize,
+}
+
+// (No From in the port: document 01 wants its own enums there in place of Result.)
+fn given<T>(told: recv::Told<T>) -> Result<T, Refusal> {
+    match told {
+        recv::Told::Is(value) => Ok(value),
+        recv::Told::Refused(why) => Err(Refusal::from(why)),
     }
 }
 
-// A stored payload waits unless the ack number moved.
-fn tell_stored(book: &mut Book, number: u64, before: u64, after: u64) {
-    if before == after {
-        tell(book, WAITS, number, 0)
-    } else {
-        tell(book, WROTE, number, after)
-    }
-}
-
-// What a write's answer says of a number, with the ack number before it and after.
-fn tell_written(book: &mut Book, answer: Writing, number: u64, before: u64, after: u64) {
-    match answer {
-        Writing::Stored => tell_stored(book, number, before, after),
-        Writing::AlreadyThere => tell(book, WROTE_AGAIN, number, 0),
-        Writing::Refused(why) => tell_refused(book, UNWRITTEN, number, why.number() as u64),
-    }
-}
-
-// A payload arrives under its number.
-fn arrive_as(
-    receiver: ReceiveBuffer,
-    book: &mut Book,
-    buf: &mut [u8],
-    number: SeqNum,
-    payload: &[u8],
-) -> ReceiveBuffer {
-    let before = number_of(receiver.ack_num());
-    let written = receiver.write(buf, number, payload);
-    let answer = written.answer;
-    let state = written.state;
-    let after = number_of(state.ack_num());
-    tell_written(book, answer, number.0 as u64, before, after);
-    state
-}
-
-// A packet arrives, in a datagram that stands in this part of the memory.
-fn arrive(
-    receiver: ReceiveBuffer,
-    book: &mut Book,
-    buf: &mut [u8],
-    packet: Packet,
-    part: Part,
-    memory: &Memory,
-) -> ReceiveBuffer {
-    let header = packet.header;
-    let payload = packet.payload;
-    let bytes = payload.bytes(part.bytes(memory));
-    arrive_as(receiver, book, buf, header.seq_num, bytes)
-}
-
-// The offset of the payload that is read.
-fn wanted(book: &Book) -> u32 {
-    (book[WANT] % 4294967296) as u32
-}
-
-// Past a payload that has been read whole.
-fn skip(book: &mut Book) {
-    if book[AT] >= size_of(book, wanted(book)) as u64 {
-        add(book, WANT, 1);
-        book[AT] = 0;
-    }
-}
-
-// Compares one byte that was read with the one that was sent. No two payloads in a row are empty.
-fn compare(book: &mut Book, byte: u8) {
-    skip(book);
-    skip(book);
-    if byte != byte_of(key(book[SEED], wanted(book)), book[AT]) {
-        add(book, WRONG, 1);
-    }
-    add(book, AT, 1);
-    add(book, BYTES_OUT, 1);
-}
-
-// Compares bytes that were read, in order.
-fn compare_all(book: &mut Book, bytes: &[u8]) {
-    let mut i: usize = 0;
-    while i < bytes.len() {
-        compare(book, bytes[i]);
-        i += 1;
-    }
-}
-
-// What a read tells, which took the front of these bytes.
-fn tell_read(book: &mut Book, answer: Count, out: &[u8]) {
-    match answer {
-        Count::Is(n) => {
-            compare_all(book, front(out, n));
-            tell(book, READ, n as u64, 0)
+impl<'a> Receiver<'a> {
+    // A fresh one, over a buffer.
+    pub fn new(plan: &Plan, buffer: &'a mut [u8]) -> Self {
+        let created = ReceiveBuffer::new(plan.initial, buffer.len());
+        Self {
+            state: created.state,
+            buffer,
+            offset: 1,
+            at: 0,
         }
-        Count::Refused(why) => tell_answer(book, UNREAD, why.number() as u64),
     }
-}
 
-fn read_into(
-    receiver: ReceiveBuffer,
-    book: &mut Book,
-    buf: &mut [u8],
-    out: &mut [u8],
-) -> ReceiveBuffer {
-    let taken = receiver.read(buf, out);
-    let answer = taken.answer;
-    tell_read(book, answer, out);
-    taken.state
-}
-
-// Up to so many bytes are read, and each is compared.
-fn read(receiver: ReceiveBuffer, book: &mut Book, buf: &mut [u8], most: u64) -> ReceiveBuffer {
-    let mut out = io::buffer();
-    let count = (most % 4096) as usize;
-    read_into(receiver, book, buf, &mut out[..count])
-}
-
-// The free room that an ack's header tells, or 0.
-fn window_of(receiver: ReceiveBuffer) -> u32 {
-    match receiver.available() {
-        Count::Is(n) => (n % 4294967296) as u32,
-        Count::Refused(_) => 0,
+    // All was read.
+    pub fn is_done(&self) -> bool {
+        self.state.ready == 0
     }
-}
 
-// The header of an ack of this number, which tells this window, and a delay that was drawn.
-fn header_of(book: &Book, number: SeqNum, window: u32) -> Header {
-    Header {
-        packet_type: PacketType::State,
-        conn_id: 4660,
-        ts_micros: (book[CLOCK] % 4294967296) as u32,
-        ts_diff_micros: 50000 + (book[DRAWN] / 4096 % 250000) as u32,
-        window_size: window,
-        seq_num: SeqNum(0),
-        ack_num: number,
+    // The last number in order, where it is told.
+    fn ack_num(&self) -> Option<SeqNum> {
+        given(self.state.ack_num()).ok()
     }
-}
 
-// An ack with these bytes of SACK goes into the channel, with the number and the free room of the same
-// moment.
-fn ack_with(receiver: ReceiveBuffer, book: &mut Book, sack: &[u8], memory: &mut Memory) {
-    match receiver.ack_num() {
-        Number::Is(number) => {
-            let header = header_of(book, number, window_of(receiver));
-            put(book, memory, header, sack, b"");
-            tell(book, BUILT, number.0 as u64, sack.len() as u64)
+    // A packet arrives, in a datagram.
+    pub fn arrive(&mut self, packet: Packet, datagram: &[u8]) -> Told {
+        let number = packet.header.seq_num;
+        let before = self.ack_num();
+        let payload = packet.payload.bytes(datagram);
+        let written = self.state.write(self.buffer, number, payload);
+        self.state = written.state;
+        match written.answer {
+            Writing::Stored => self.stored(number, before),
+            Writing::AlreadyThere => Told::WroteAgain(number),
+            Writing::Refused(why) => Told::Unwritten(number, Refusal::from(why)),
         }
-        Number::Refused(why) => tell_answer(book, UNBUILT, why.number() as u64),
     }
-}
 
-// An ack is built in this room.
-fn build_in(receiver: ReceiveBuffer, book: &mut Book, room: &mut [u8], memory: &mut Memory) {
-    match receiver.selective_ack(room) {
-        Count::Is(n) => ack_with(receiver, book, front(room, n), memory),
-        Count::Refused(why) => tell_answer(book, UNBUILT, why.number() as u64),
-    }
-}
-
-// An ack is built, with room for so many bytes of SACK.
-fn build(receiver: ReceiveBuffer, book: &mut Book, size: u64, memory: &mut Memory) {
-    let mut room = io::buffer();
-    let count = (size % 4096) as usize;
-    build_in(receiver, book, &mut room[..count], memory)
-}
-
-// The receiver's part of a step.
-pub(crate) fn receive(
-    receiver: ReceiveBuffer,
-    book: &mut Book,
-    step: Step,
-    buf: &mut [u8],
-    memory: &mut Memory,
-) -> ReceiveBuffer {
-    match step {
-        Step::Arrive(packet, part) => arrive(receiver, book, buf, packet, part, memory),
-        Step::Read(most) => read(receiver, book, buf, most),
-        Step::Build(size) => {
-            build(receiver, book, size, memory);
-            receiver
+    // A stored payload waits unless the ack number moved.
+    fn stored(&self, number: SeqNum, before: Option<SeqNum>) -> Told {
+        match (before, self.ack_num()) {
+            (Some(before), Some(after)) if before.0 != after.0 => Told::Wrote(number, after),
+            _ => Told::Waits(number),
         }
-        _ => receiver,
+    }
+
+    // Past a payload that has been read whole.
+    // (recv_run has it too: plan.rt says why.)
+    fn skip(&mut self, plan: &Plan) {
+        if self.at >= plan.size_of(self.offset) {
+            self.offset = self.offset.wrapping_add(1);
+            self.at = 0;
+        }
+    }
+
+    // The byte that is to be read next. No two payloads in a row are empty.
+    fn next_byte(&mut self, plan: &Plan) -> u8 {
+        self.skip(plan);
+        self.skip(plan);
+        let byte = byte_of(plan.payload(self.offset), self.at as u64);
+        self.at = self.at.wrapping_add(1);
+        byte
+    }
+
+    // Compares bytes that were read, in order, with those that were sent.
+    fn compare(&mut self, book: &mut Book, bytes: &[u8]) {
+        for byte in bytes {
+            if *byte != self.next_byte(&book.plan) {
+                add(&mut book.counts.wrong, 1);
+            }
+        }
+        add(&mut book.counts.bytes_out, bytes.len() as u64);
+    }
+
+    // Up to so many bytes are read, and each is compared.
+    pub fn read(&mut self, book: &mut Book, most: u64) {
+        let mut room = [0u8; 4096];
+        let out = &mut room[..(most % 4096) as usize];
+        let taken = self.state.read(self.buffer, out);
+        self.state = taken.state;
+        match given(taken.answer) {
+            Ok(n) => {
+                self.compare(book, front(out, n));
+                book.tell(Told::Read(n));
+            }
+            Err(refusal) => book.tell(Told::Unread(refusal)),
+        }
+    }
+
+    // The free room that an ack's header tells, or 0.
+    fn window(&self) -> u32 {
+        given(self.state.available()).map_or(0, |n| (n % 4294967296) as u32)
+    }
+
+    // The ack number, and how many bytes of SACK are put into this room.
+    fn acknowledge(&self, room: &mut [u8]) -> Result<(SeqNum, usize), Refusal> {
+        let size = given(self.state.selective_ack(room))?;
+        let number = given(self.state.ack_num())?;
+        Ok((number, size))
+    }
+
+    // An ack is built, with room for so many bytes of SACK, and goes into the channel. It tells the
+    // free room of the same moment, and a delay that was drawn.
+    pub fn build(&self, book: &mut Book, most: u64) {
+        let mut room = [0u8; 4096];
+        let room = &mut room[..(most % 4096) as usize];
+        match self.acknowledge(room) {
+            Ok((number, size)) => {
+                let header = Header {
+                    packet_type: PacketType::State,
+                    conn_id: 4660,
+                    ts_micros: (book.clock % 4294967296) as u32,
+                    ts_diff_micros: 50000 + (book.drawn / 4096 % 250000) as u32,
+                    window_size: self.window(),
+                    seq_num: SeqNum(0),
+                    ack_num: number,
+                };
+                let sack = front(room, size);
+                book.put(header, sack, b"");
+                book.tell(Told::Built(number, sack.len()));
+            }
+            Err(refusal) => book.tell(Told::Unbuilt(refusal)),
+        }
     }
 }

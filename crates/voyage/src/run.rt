@@ -1,170 +1,152 @@
-// A whole run, and the line that it prints.
-use crate::book::{
-    BYTES_IN, BYTES_OUT, Book, COUNTED, DIFFER, LENGTH, LENGTHS, PACKETS, REFUSED, RUNS, SEED,
-    TO_SEND, VERDICT, WRONG,
-};
-use crate::channel::Memory;
-use crate::plan::{initial, settings};
-use crate::receiver::receive;
-use crate::sender::send;
-use crate::step::begin;
-use crate::words::{put_line, say};
-use recv::ReceiveBuffer;
-use report::text::{print, put_byte, put_next, put_number};
-use sent_lent::head::Head;
+// A whole run, and how it ended.
+use crate::book::Book;
+use crate::counts::Counts;
+use crate::plan::Plan;
+use crate::receiver::Receiver;
+use crate::sender::Sender;
+use crate::step::{Step, Way};
+use crate::tracker::Tracker;
+use packet::kind::PacketType;
+use sent::head::Head;
+use sent_lent::columns::Columns;
+use sent_lent::pairs::Pairs;
+use std::fmt;
+use std::fmt::{Display, Formatter};
 use std::io::Result;
 
-// A fresh sender. The arrays of its tracker hold zeros.
-fn fresh_sender(book: &Book) -> Head {
-    let tracked = Head::new(initial(book), settings(book));
-    tracked.head
-}
-
-// A fresh receiver, from the same initial number.
-fn fresh_receiver(book: &Book, length: usize) -> ReceiveBuffer {
-    let created = ReceiveBuffer::new(initial(book), length);
-    created.state
-}
-
-// All was sent, acknowledged and read.
-fn is_done(sender: Head, receiver: ReceiveBuffer, book: &Book) -> bool {
-    (book[TO_SEND] <= sender.count as u64) & (sender.live == 0) & (receiver.ready == 0)
-}
-
-// What a step told is printed where that is asked for.
-fn show(rt: &impl Print, book: &Book, is_shown: bool) -> Result<()> {
-    if is_shown { say(rt, book) } else { Ok(()) }
-}
-
 // A run that has not ended by then is not finished.
-const MOST_STEPS: u64 = 60000;
+const MOST_STEPS: usize = 60000;
 
-// Steps until all is done, and answers whether it is. The channel, the receiver and the sender do their
-// parts of each.
-fn walk(
-    rt: &impl Print,
-    first_sender: Head,
-    first_receiver: ReceiveBuffer,
-    samples: &mut [u64; 2048],
-    times: &mut [u64; 512],
-    sizes: &mut [u32; 1024],
-    marks: &mut [u8; 2048],
-    book: &mut Book,
-    buf: &mut [u8],
-    memory: &mut Memory,
-    is_shown: bool,
-) -> Result<bool> {
-    let mut sender = first_sender;
-    let mut receiver = first_receiver;
-    for index in 0..MOST_STEPS {
-        if is_done(sender, receiver, book) {
-            return Ok(true);
+// How a run ended. Every byte that was sent is to be read, in its place.
+#[derive(Clone, Copy, PartialEq, Eq)]
+pub(crate) enum Verdict {
+    Equal,
+    NotEqual,
+    NotFinished,
+}
+
+// A run that ended.
+#[derive(Clone, Copy)]
+pub(crate) struct Ended {
+    pub plan: Plan,
+    pub counts: Counts,
+    pub verdict: Verdict,
+}
+
+// Both ends.
+#[derive(Drop)]
+struct Ends<'a, 'b> {
+    sender: Sender<'a>,
+    receiver: Receiver<'b>,
+}
+
+impl Ends<'_, '_> {
+    // All was sent, acknowledged and read.
+    fn is_done(&self, plan: &Plan) -> bool {
+        self.sender.is_done(plan) && self.receiver.is_done()
+    }
+
+    fn step(&mut self, book: &mut Book, step: Step) {
+        match step {
+            Step::Send(far, back) => self.sender.send(book, far, back),
+            Step::Pass(way, start) => self.pass(book, way, start),
+            Step::Build(most) => self.receiver.build(book, most),
+            Step::Read(most) => self.receiver.read(book, most),
+            Step::SendLost(position) => self.sender.send_lost(book, position),
+            Step::TimeOut => self.sender.time_out(book),
         }
-        let step = begin(book, memory, index);
-        receiver = receive(receiver, book, step, buf, memory);
-        sender = send(sender, samples, times, sizes, marks, book, step, memory);
-        show(rt, book, is_shown)?;
     }
-    Ok(is_done(sender, receiver, book))
-}
 
-// Notes how a run ended. Every byte that was sent is to be read, in its place.
-fn end(book: &mut Book, is_done: bool) {
-    if !is_done {
-        book[VERDICT] = 2;
-        book[DIFFER] = 1;
-        return;
+    // What the channel hands over goes to the end that it is for. An ack is a State.
+    fn pass(&mut self, book: &mut Book, way: Way, start: u64) {
+        let Some(handed) = book.pass(way, start) else {
+            return;
+        };
+        let packet = handed.packet;
+        let clock = book.clock.saturating_sub(handed.back);
+        let datagram = book.channel.bytes(handed.held);
+        let told = match packet.header.packet_type {
+            PacketType::State => self.sender.hear(packet, datagram, clock),
+            _ => self.receiver.arrive(packet, datagram),
+        };
+        book.tell(told);
     }
-    let is_equal = (book[WRONG] == 0) & (book[BYTES_IN] == book[BYTES_OUT]);
-    if !is_equal {
-        book[VERDICT] = 1;
-        book[DIFFER] = 1;
-    }
-}
 
-// Makes the run that the book is set up for.
-pub(crate) fn run(rt: &impl Print, book: &mut Book, is_shown: bool) -> Result<()> {
-    let mut room = io::large_buffer();
-    let mut memory = io::large_buffer();
-    let mut samples: [u64; 2048] = [0; 2048];
-    let mut times: [u64; 512] = [0; 512];
-    let mut sizes: [u32; 1024] = [0; 1024];
-    let mut marks: [u8; 2048] = [0; 2048];
-    let length = (book[LENGTH] % 65537) as usize;
-    let is_done = walk(
-        rt,
-        fresh_sender(book),
-        fresh_receiver(book, length),
-        &mut samples,
-        &mut times,
-        &mut sizes,
-        &mut marks,
-        book,
-        &mut room[..length],
-        &mut memory,
-        is_shown,
-    )?;
-    end(book, is_done);
-    Ok(())
-}
-
-// Puts what was counted.
-fn put_counts(room: &mut [u8], at: usize, book: &Book) -> usize {
-    let text = b" packets #, lost #, repeated #, sent again #, refused #, bytes in #, bytes out #";
-    put_line(room, at, text, 0, book, PACKETS)
-}
-
-// Prints the run's line, which begins with a text for its seed and its initial number.
-pub(crate) fn print_run(rt: &impl Print, book: &Book, name: &[u8]) -> Result<()> {
-    let verdicts = b", equal\n, NOT EQUAL\n, NOT FINISHED\n";
-    let mut room = io::buffer();
-    let used = put_line(&mut room, 0, name, 0, book, SEED);
-    let used = put_counts(&mut room, used, book);
-    let verdict = (book[VERDICT] % 3) as usize;
-    let used = put_line(&mut room, used, verdicts, verdict, book, VERDICT);
-    print(rt, &room, used)
-}
-
-// Adds what a run counted to the totals.
-pub(crate) fn add_all(totals: &mut Book, book: &Book) {
-    for place in COUNTED..LENGTHS {
-        totals[place] = std::num::wrapping_add_u64(totals[place], book[place]);
+    // How a run ended.
+    fn verdict(&self, book: &Book) -> Verdict {
+        let counts = &book.counts;
+        if !self.is_done(&book.plan) {
+            Verdict::NotFinished
+        } else if counts.wrong == 0 && counts.bytes_in == counts.bytes_out {
+            Verdict::Equal
+        } else {
+            Verdict::NotEqual
+        }
     }
 }
 
-// An answer number and its count, where it occurs.
-fn put_count(room: &mut [u8], at: usize, answer: u64, count: u64) -> usize {
-    if count == 0 {
-        return at;
+// Makes the run of a plan, with these steps, until all is done. What each step told is printed
+// where that is asked for.
+pub(crate) fn run<S: Fn(&Book, usize) -> Step>(
+    rt: &impl Print,
+    plan: Plan,
+    steps: S,
+    is_shown: bool,
+) -> Result<Ended>
+    requires { S.IsAlwaysCallable steps }
+{
+    let mut samples = Pairs { pairs: [0; 2048] };
+    let mut packets = Columns {
+        times: [0; 512],
+        sizes: [0; 1024],
+        marks: [0; 2048],
+    };
+    let tracker = Tracker {
+        head: Head::new(plan.initial, plan.settings()).head,
+        samples: &mut samples,
+        packets: &mut packets,
+    };
+    let mut buffer = [0u8; 65536];
+    let mut ends = Ends {
+        sender: Sender::new(tracker),
+        receiver: Receiver::new(&plan, &mut buffer[..plan.length.min(65536)]),
+    };
+    let mut book = Book::new(plan);
+    for index in 0..MOST_STEPS {
+        if ends.is_done(&plan) {
+            break;
+        }
+        book.go_on();
+        let step = steps(&book, index);
+        ends.step(&mut book, step);
+        if is_shown {
+            let told = book.told;
+            println!(rt; "{told}")?;
+        }
     }
-    let used = put_next(room, at, answer);
-    let used = put_byte(room, used, b':');
-    put_number(room, used, count)
+    Ok(Ended {
+        plan,
+        counts: book.counts,
+        verdict: ends.verdict(&book),
+    })
 }
 
-fn put_refused(room: &mut [u8], at: usize, book: &Book) -> usize {
-    let mut used = at;
-    for place in REFUSED..LENGTHS {
-        used = put_count(room, used, (place - REFUSED) as u64, book[place]);
+impl Display for Verdict {
+    fn fmt<W: fmt::Write>(&self, f: &mut Formatter<W>) -> fmt::Result {
+        f.write_str(match self {
+            Verdict::Equal => "equal",
+            Verdict::NotEqual => "NOT EQUAL",
+            Verdict::NotFinished => "NOT FINISHED",
+        })
     }
-    used
 }
 
-// Prints the line of totals: how many runs, how many of them did not end with every byte in its place,
-// and all their counts.
-pub(crate) fn print_totals(rt: &impl Print, totals: &Book) -> Result<()> {
-    let mut room = io::buffer();
-    let used = put_line(&mut room, 0, b"# runs:", 0, totals, RUNS);
-    let used = put_counts(&mut room, used, totals);
-    let used = put_line(&mut room, used, b"; refusals by number", 0, totals, RUNS);
-    let used = put_refused(&mut room, used, totals);
-    let used = put_line(
-        &mut room,
-        used,
-        b"; runs that differ #\n",
-        0,
-        totals,
-        DIFFER,
-    );
-    print(rt, &room, used)
+impl Display for Ended {
+    fn fmt<W: fmt::Write>(&self, f: &mut Formatter<W>) -> fmt::Result {
+        let seed = self.plan.seed;
+        let initial = self.plan.initial.0;
+        let counts = &self.counts;
+        let verdict = self.verdict;
+        write!(f, "seed {seed} from {initial}: {counts}, {verdict}")
+    }
 }

@@ -5,6 +5,7 @@ use Rattle.std.proofs.Math.Path.{ap, sym}
 use mathlib.Core.List.{List, [], ◌∷◌, ◌++◌, append_assoc}
 use Rattle.std.proofs.Math.ListN.{length, take, drop, length-append, length-take}
 use Rattle.std.proofs.Math.Seq.{take_at, drop-append-add, drop-drop, set_split}
+use borrow.Rule.Slice.PartMut.{put_mid}
 
 module _ {A : Type 0} where
   -- `s` written over `l` from place `at` on
@@ -27,6 +28,11 @@ module _ {A : Type 0} where
   pub put-none : (l : List A) (at : ℕ) → put l at [] ≡ l
   unfolding put
   put-none l at = simp (add-zero) (take-append-drop at l)
+
+  -- So is a copy to the part of the list that begins there.
+  pub put_part : (l s part : List A) (at size : ℕ) → part ≡ s → size ≡ length s → put_mid at size l part ≡ put l at s
+  unfolding put
+  put_part l s part at size e f = rw (e, f) (ap (λ (rest : List A). take at l ++ (s ++ rest)) (drop-drop (length s) at l))
 
   -- A store is a writing of one.
   pub set-put : (l : List A) (at : ℕ) (a : A) → at < length l → set l at a ≡ put l at (a ∷ [])

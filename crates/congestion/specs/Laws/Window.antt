@@ -2,6 +2,7 @@
 use Rattle.std.specs.Prelude.{◌≡◌, ℕ, suc, ◌+◌, ◌-◌, ◌^◌, ◌<◌, ◌≤◌, min, max, Bool, true, false, ℤ, pos, negsuc, ◌+ℤ◌, ◌<ℤ◌, nat_le, nat_lt, refl}
 use Rattle.std.proofs.Common.{sym, ap, ◌∙◌, arith, ltb→lt, leb-true, leb-false, ltb-true, ltb-false}
 use Rattle.std.proofs.Math.IntN.{sub_ℕ}
+use Rattle.std.specs.Int.{w64, saturate_unsigned}
 use Rattle.congestion.specs.Window.{at_least, next_maximum_of, rise_of, fall_of, top}
 use Rattle.congestion.specs.Laws.Trip.{sub_from_above, sub_from_below}
 
@@ -43,6 +44,16 @@ rise_held minimum increase maximum (pos n) h = by_test (nat_le n (2 ^ 33)) refl 
 rise_held minimum increase maximum (negsuc n) h =
     ap (λ (m : ℕ). min (min (max minimum m) (maximum + increase)) top) (omega arith)
     ∙ sym (next_maximum_is minimum increase maximum (negsuc n))
+
+-- The sum may be held at 0, and at 2^64 - 1, which is past every bound.
+pub sum_held : (minimum increase maximum : ℕ) (z : ℤ) → maximum + increase < 2 ^ 64
+    → min (min (max (saturate_unsigned w64 (pos maximum +ℤ z)) minimum) (maximum + increase)) top ≡ next_maximum_of minimum increase maximum z
+unfolding next_maximum_of
+sum_held minimum increase maximum z h = by_sign (pos maximum +ℤ z)
+  where
+    by_sign : (y : ℤ) → min (min (max (saturate_unsigned w64 y) minimum) (maximum + increase)) top ≡ min (min (at_least minimum y) (maximum + increase)) top
+    by_sign (pos n) = omega arith
+    by_sign (negsuc n) = omega arith
 
 -- ---- the bounds
 

@@ -10,7 +10,7 @@ use Rattle.std.proofs.lemmas.List.{take-append-le, set_at, set_split}
 use Rattle.std.proofs.lemmas.Bool.{eqb-false, lt-leb}
 use Rattle.controller.specs.declared.delays.Sample.{Sample}
 use Rattle.controller.specs.declared.delays.Delays.{Delays}
-use Rattle.controller.specs.Delays.{drop_front, onto, drop_back, most, expired_of, not_smaller_of, remaining_of, room_of, take_of, base_of, list_of, written_of, delay_below, time_by, kept_sound_of, moved_down_of, room_count_of}
+use Rattle.controller.specs.Delays.{drop_front, onto, drop_back, most, expired_of, not_smaller_of, remaining_of, room_of, take_of, base_of, list_of, delays_of, no_sample, written_of, delay_below, time_by, kept_sound_of, moved_down_of, room_count_of}
 use Rattle.congestion.specs.Laws.Numbers.{both}
 
 -- ---- from the front
@@ -87,6 +87,11 @@ moved_one kept first i d h =
     ∙ set_at (take i s) (get_or kept i d) (drop (suc i) kept) (get_or s i d) i len
     ∙ sym (append_assoc (take i s) (get_or s i d ∷ []) (drop (suc i) kept))
     ∙ ap (λ (l : List Sample). l ++ drop (suc i) kept) (sym (take-suc s i d inside))
+
+-- what has been moved down is as long as before, so that one length tells the other
+pub moved_full : (kept : List Sample) (first left : ℕ) → first + left ≤ most → length (take left (drop first kept) ++ drop left kept) ≡ most → length kept ≡ most
+moved_full kept first left h e =
+    omega (arith, length-append (take left (drop first kept)) (drop left kept), length-take left (drop first kept), length-drop first kept, length-drop left kept, e)
 
 -- from the front on, all stand already
 pub moved_none : (d : Delays) (first left : ℕ) → moved_down_of d first (cond (eqb first 0) left 0) ≡ d
@@ -167,6 +172,37 @@ list_length kept n full h = length-take-le n kept (omega arith)
 pub list_at : (kept : List Sample) (n i : ℕ) (d : Sample) → i < n → get_or (take n kept) i d ≡ get_or kept i d
 list_at kept n i d h = get_or-take n kept i d h
 
+-- the sample that a walk from the back reads next, with what stands behind it
+pub list_next : (d : Delays) (i : ℕ) (x : Sample) → length d.kept ≡ most → d.count ≤ most → 0 < i → i ≤ d.count → x ≡ get_or d.kept (i - 1) no_sample
+    → drop (i - 1) (list_of d) ≡ x ∷ drop i (list_of d)
+list_next d i x full few some i_in read =
+    let e : suc (i - 1) ≡ i = omega arith in
+    drop-cons (list_of d) (i - 1) no_sample (omega (arith, list_length d.kept d.count full few))
+    ∙ ap (λ (s : Sample). s ∷ drop (suc (i - 1)) (list_of d)) (list_at d.kept d.count (i - 1) no_sample (omega arith) ∙ sym read)
+    ∙ ap (λ (k : ℕ). x ∷ drop k (list_of d)) e
+
+-- dropping from the back of what stands from `first` on, past what it reads
+pub back_next : (p : Sample → Bool) (d : Delays) (first i : ℕ) (x : Sample) → length d.kept ≡ most → d.count ≤ most → first < i → i ≤ d.count
+    → x ≡ get_or d.kept (i - 1) no_sample
+    → drop_back p (take (i - first) (drop first (list_of d)))
+    ≡ cond (p x) (drop_back p (take (i - 1 - first) (drop first (list_of d)))) (take (i - first) (drop first (list_of d)))
+back_next p d first i x full few some i_in read =
+    let l = drop first (list_of d) in
+    let e : suc (i - 1 - first) ≡ i - first = omega arith in
+    let f : first + (i - 1 - first) ≡ i - 1 = omega arith in
+    let one_more : take (i - first) l ≡ take (i - 1 - first) l ++ x ∷ [] =
+    ap (λ (k : ℕ). take k l) (sym e)
+    ∙ take-suc l (i - 1 - first) no_sample (omega (arith, length-drop first (list_of d), list_length d.kept d.count full few))
+    ∙ ap (λ (s : Sample). take (i - 1 - first) l ++ s ∷ [])
+    (get_or-drop first (list_of d) (i - 1 - first) no_sample
+    ∙ ap (λ (k : ℕ). get_or (list_of d) k no_sample) f
+    ∙ list_at d.kept d.count (i - 1) no_sample (omega arith)
+    ∙ sym read)
+    in
+    ap (drop_back p) one_more
+    ∙ back_last p (take (i - 1 - first) l) x
+    ∙ ap (cond (p x) (drop_back p (take (i - 1 - first) l))) (sym one_more)
+
 -- ---- one more sample at the front, in the soundness test
 
 module _ (last : ℕ) (l r : List Sample) (x : Sample) (i : ℕ) (e : drop i l ≡ x ∷ r) where
@@ -193,9 +229,6 @@ drop-take (suc n) (suc k) (x ∷ l) h =
 -- what stays of the list is the same part of the array
 part_of_array : (kept : List Sample) (n first left : ℕ) → first ≤ n → left ≤ n - first → take left (drop first (take n kept)) ≡ take left (drop first kept)
 part_of_array kept n first left h k = ap (take left) (drop-take n first kept h) ∙ take-take left (n - first) (drop first kept) k
-
-abbrev pub with_kept : List Sample → ℕ → Delays
-with_kept kept count = record { kept = kept; count = count }
 
 module _ (d : Delays) (delay clock window first left : ℕ) (full : length d.kept ≡ most) (few : d.count ≤ most) (first_in : first ≤ d.count)
     (left_in : left ≤ d.count - first) (front : drop_front (expired_of window clock) (list_of d) ≡ drop first (list_of d))
@@ -226,11 +259,11 @@ module _ (d : Delays) (delay clock window first left : ℕ) (full : length d.kep
       ∙ ap (λ (n : ℕ). n + 1) (length-take-le (room_count_of left) stays (omega (arith, stays_length)))
       ∙ add-one (room_count_of left)
 
-  pub taken_is : with_kept (set (moved_down_of d first left).kept (room_count_of left) (record { delay = delay; at = clock })) (suc (room_count_of left))
+  pub taken_is : delays_of (set (moved_down_of d first left).kept (room_count_of left) (record { delay = delay; at = clock })) (suc (room_count_of left))
       ≡ written_of d (take_of window delay clock (list_of d))
   unfolding stays
   taken_is =
-      ap (λ (l : List Sample). with_kept l (suc (room_count_of left))) (put_behind d.kept stays left (record { delay = delay; at = clock }) full stays_length (omega arith))
-      ∙ ap (λ (n : ℕ). with_kept ((take (room_count_of left) stays ++ record { delay = delay; at = clock } ∷ []) ++ drop n d.kept) n)
+      ap (λ (l : List Sample). delays_of l (suc (room_count_of left))) (put_behind d.kept stays left (record { delay = delay; at = clock }) full stays_length (omega arith))
+      ∙ ap (λ (n : ℕ). delays_of ((take (room_count_of left) stays ++ record { delay = delay; at = clock } ∷ []) ++ drop n d.kept) n)
       (sym taken_length)
-      ∙ ap (λ (l : List Sample). with_kept (l ++ drop (length (take_of window delay clock (list_of d))) d.kept) (length (take_of window delay clock (list_of d)))) (sym taken_list)
+      ∙ ap (λ (l : List Sample). delays_of (l ++ drop (length (take_of window delay clock (list_of d))) d.kept) (length (take_of window delay clock (list_of d)))) (sym taken_list)

@@ -1,15 +1,15 @@
 -- The kept samples in order: delays rise and times do not fall from each to the next. Taking a sample keeps that order, and taking it twice at one
 -- moment is taking it once.
-use Rattle.std.specs.Prelude.{◌≡◌, refl, Bool, true, false, ◌&&◌, cond, List, [], ◌∷◌, ◌++◌, ℕ, zero, suc, ◌+◌, ◌-◌, ◌≤◌, ◌<◌, leb, ltb, length, take, drop}
-use Rattle.std.proofs.Common.{sym, ap, ◌∙◌, arith, length-append, length-take, take_at, drop_at, leb-true, leb-false, ltb-true, le-leb, lt-ltb, ne_eqb}
+use Rattle.std.specs.Prelude.{◌≡◌, refl, Bool, true, false, ◌&&◌, cond, List, [], ◌∷◌, ◌++◌, ℕ, zero, suc, ◌+◌, ◌-◌, ◌≤◌, ◌<◌, leb, ltb, eqb, length, take, drop, get_or}
+use Rattle.std.proofs.Common.{sym, ap, ◌∙◌, arith, drop-cons, length-append, length-take, take_at, drop_at, leb-true, leb-false, ltb-true, le-leb, lt-ltb, ne_eqb}
 use Rattle.std.proofs.Math.Path.{subst⁻¹}
 use Rattle.std.proofs.lemmas.Bool.{lt-leb}
 use Rattle.controller.specs.declared.delays.Sample.{Sample}
 use Rattle.controller.specs.declared.delays.Delays.{Delays}
 use Rattle.congestion.specs.Settings.{latest}
-use Rattle.controller.specs.Delays.{drop_front, onto, drop_back, most, expired_of, not_smaller_of, remaining_of, room_of, take_of, base_of, list_of, written_of, taken_of, delay_below, time_by, kept_sound_of, delays_sound_of, room_count_of}
+use Rattle.controller.specs.Delays.{drop_front, onto, drop_back, most, expired_of, not_smaller_of, remaining_of, room_of, take_of, base_of, list_of, delays_of, no_sample, written_of, taken_of, delay_below, time_by, kept_sound_of, delays_sound_of, room_count_of}
 use Rattle.congestion.specs.Laws.Numbers.{both, and_of}
-use Rattle.controller.specs.Laws.Delays.{back_last, room_is, room_at_most, with_kept}
+use Rattle.controller.specs.Laws.Delays.{back_last, room_is, room_at_most, list_length, list_at}
 
 -- ---- in order, up to a delay and a time
 
@@ -285,5 +285,45 @@ module _ (last : ℕ) (d : Delays) (e : delays_sound_of last d ≡ true) where
       ∙ ap (λ (m : Delays). written_of m (take_of window delay clock (list_of m))) (taken_written last d delay clock window e)
       ∙ ap (λ (m : List Sample). written_of (written_of d l) (take_of window delay clock m)) (list_of_written d l)
       ∙ ap (written_of (written_of d l)) (taken_twice window delay clock (suc latest) last (list_of d) w h (list_few d few) in_order)
-      ∙ ap (λ (m : List Sample). with_kept (l ++ m) (length l)) (drop_at l (drop (length l) d.kept) (length l) refl)
+      ∙ ap (λ (m : List Sample). delays_of (l ++ m) (length l)) (drop_at l (drop (length l) d.kept) (length l) refl)
       ∙ sym (taken_written last d delay clock window e)
+
+-- ---- the base delay that goes with a sample, once it is taken
+
+base_first : (x : Sample) (l m : List Sample) → base_of (room_of (x ∷ l) ++ m) ≡ x.delay
+unfolding room_of
+base_first x l m = by_test (eqb (length (x ∷ l)) most)
+  where
+    by_test : (t : Bool) → base_of (cond t (take (most - 1) (x ∷ l)) (x ∷ l) ++ m) ≡ x.delay
+    by_test true = refl
+    by_test false = refl
+
+module _ (d : Delays) (delay clock window first left : ℕ) (few : d.count ≤ most) (front : drop_front (expired_of window clock) (list_of d) ≡ drop first (list_of d))
+    (back : drop_back (not_smaller_of delay) (drop first (list_of d)) ≡ take left (drop first (list_of d))) where
+  base_of_taken : base_of (list_of (taken_of d delay clock window)) ≡ base_of (room_of (take left (drop first (list_of d))) ++ record { delay = delay; at = clock } ∷ [])
+  unfolding take_of remaining_of
+  base_of_taken =
+      let l = take_of window delay clock (list_of d) in
+      ap (λ (t : Bool). base_of (list_of (cond t (written_of d l) d))) (le-leb d.count most few)
+      ∙ ap base_of (list_of_written d l)
+      ∙ ap (λ (m : List Sample). base_of (room_of (drop_back (not_smaller_of delay) m) ++ record { delay = delay; at = clock } ∷ [])) front
+      ∙ ap (λ (m : List Sample). base_of (room_of m ++ record { delay = delay; at = clock } ∷ [])) back
+
+  -- nothing remains
+  pub base_alone : left ≡ 0 → delay ≡ base_of (list_of (taken_of d delay clock window))
+  unfolding room_of
+  base_alone e =
+      sym (base_of_taken ∙ ap (λ (n : ℕ). base_of (room_of (take n (drop first (list_of d))) ++ record { delay = delay; at = clock } ∷ [])) e)
+
+  -- the first that remains
+  pub base_of-first : length d.kept ≡ most → first ≤ d.count → left ≤ d.count - first → 0 < left
+      → (get_or d.kept first no_sample).delay ≡ base_of (list_of (taken_of d delay clock window))
+  base_of-first full first_in left_in h =
+      let e : left ≡ suc (left - 1) = omega arith in
+      sym
+      (base_of_taken
+      ∙ ap (λ (m : List Sample). base_of (room_of (take left m) ++ record { delay = delay; at = clock } ∷ []))
+      (drop-cons (list_of d) first no_sample (omega (arith, list_length d.kept d.count full few)))
+      ∙ ap (λ (n : ℕ). base_of (room_of (take n (get_or (list_of d) first no_sample ∷ drop (suc first) (list_of d))) ++ record { delay = delay; at = clock } ∷ [])) e
+      ∙ base_first (get_or (list_of d) first no_sample) (take (left - 1) (drop (suc first) (list_of d))) (record { delay = delay; at = clock } ∷ [])
+      ∙ ap (λ (s : Sample). s.delay) (list_at d.kept d.count first no_sample (omega arith)))

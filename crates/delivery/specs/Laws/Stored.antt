@@ -8,10 +8,10 @@ use Rattle.packet.specs.Sack.{bit_of}
 use Rattle.seq.specs.Laws.{offset_of_plus}
 use Rattle.seq.specs.declared.SeqNum.{SeqNum}
 use Rattle.recv.specs.declared.ReceiveBuffer.{ReceiveBuffer}
-use Rattle.recv.specs.declared.Count.TheVariants.{Is as is-count, Refused as count-refused}
-use Rattle.recv.specs.declared.Number.TheVariants.{Is as is_number, Refused as number-refused}
+use Rattle.recv.specs.declared.Answered.{Answered}
 use Rattle.recv.specs.declared.Refusal.TheVariants.{NotSound, NoRoom}
-use Rattle.recv.specs.declared.Taken.{Taken}
+use Rattle.recv.specs.declared.Told.{Told}
+use Rattle.recv.specs.declared.Told.TheVariants.{Is, Refused as told-refused}
 use Rattle.recv.specs.declared.Writing.{Writing}
 use Rattle.recv.specs.declared.Writing.TheVariants.{Stored, AlreadyThere, Refused}
 use Rattle.recv.specs.Table.{waits, sack_of}
@@ -112,7 +112,7 @@ module _ (r : Run) (good : Well r) where
     number_is_ack : a.number ≡ ack_of r.state
     number_is_ack = by_sound (sound_of r.state) told.number_told
       where
-        by_sound : (b : Bool) → cond b (is_number (ack_of r.state)) (number-refused NotSound) ≡ is_number a.number → a.number ≡ ack_of r.state
+        by_sound : (b : Bool) → cond b (Is (ack_of r.state)) (told-refused NotSound) ≡ Is a.number → a.number ≡ ack_of r.state
         by_sound true e = cc
         by_sound false e = let z : ◌≡◌ {A = ℕ} 0 1 = cc in absurd (omega arith)
 
@@ -120,7 +120,7 @@ module _ (r : Run) (good : Well r) where
     mask_is_sack = by_tests (sound_of r.state) (leb (length (sack_of table)) (length room)) told.size_told told.bytes_told
       where
         by_tests :
-            (b k : Bool) → cond b (cond k (is-count (length (sack_of table))) (count-refused NoRoom)) (count-refused NotSound) ≡ is-count told.size
+            (b k : Bool) → cond b (cond k (Is (length (sack_of table))) (told-refused NoRoom)) (told-refused NotSound) ≡ Is told.size
             → take told.size (cond (b && k) (over (sack_of table) room) room) ≡ a.mask
             → a.mask ≡ sack_of table
         by_tests true true e f =
@@ -191,6 +191,6 @@ pub read_initial : (s : ReceiveBuffer) (buf out : List ℕ) → (taken_of s buf 
 unfolding read_of
 read_initial s buf out = either (ready_for s (length buf)) _ _ refl refl
   where
-    either : (b : Bool) (x y : Taken) → x.state.initial ≡ s.initial → y.state.initial ≡ s.initial → (cond b x y).state.initial ≡ s.initial
+    either : (b : Bool) (x y : Answered (Told ℕ) ReceiveBuffer) → x.state.initial ≡ s.initial → y.state.initial ≡ s.initial → (cond b x y).state.initial ≡ s.initial
     either true x y e f = e
     either false x y e f = f

@@ -21,7 +21,8 @@ use Rattle.outgoing.specs.Sound.{timeout_of}
 use Rattle.sent.specs.State.{tracker_of, timeout_answer, new_answer}
 use Rattle.recv.specs.declared.Writing.{Writing}
 use Rattle.recv.specs.declared.ReceiveBuffer.{ReceiveBuffer}
-use Rattle.recv.specs.declared.Created.{Created}
+use Rattle.recv.specs.declared.Answered.{Answered}
+use Rattle.recv.specs.declared.Creation.{Creation}
 use Rattle.recv.specs.declared.Creation.TheVariants.{Made}
 use Rattle.recv.specs.State.{sound_of, created_of, fresh_of, no_receiver_of}
 use Rattle.recv.specs.Receiver.{joined}
@@ -483,8 +484,8 @@ receiver_made initial size r = by_test (leb 1 size && leb size 65536) refl
         (b : Bool) → (leb 1 size && leb size 65536) ≡ b
         → cond b (record { answer = Made; state = fresh_of initial size }) (no_receiver_of initial) ≡ record { answer = Made; state = r }
         → (1 ≤ size) × (size ≤ 65536) × (r ≡ fresh_of initial size)
-    by_test true t e = let range = both_hold (leb 1 size) (leb size 65536) t in (leb-true _ _ range.0, leb-true _ _ range.1, sym (ap (λ (k : Created). k.state) e))
-    by_test false t e = let f = ap (λ (k : Created). k.answer) e in let z : ◌≡◌ {A = ℕ} 0 1 = cc in absurd (omega arith)
+    by_test true t e = let range = both_hold (leb 1 size) (leb size 65536) t in (leb-true _ _ range.0, leb-true _ _ range.1, sym (ap (λ (k : Answered Creation ReceiveBuffer). k.state) e))
+    by_test false t e = let f = ap (λ (k : Answered Creation ReceiveBuffer). k.answer) e in let z : ◌≡◌ {A = ℕ} 0 1 = cc in absurd (omega arith)
 
 -- A fresh receiver goes on well, over a buffer of any length.
 fresh_receives : (initial : SeqNum) (size : ℕ) (buf : List ℕ) → 1 ≤ size → size ≤ 65536 → Receives (record { state = fresh_of initial size; bytes = buf; stored = []; read = [] })

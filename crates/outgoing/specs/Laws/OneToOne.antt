@@ -7,17 +7,9 @@ use Rattle.outgoing.specs.declared.answer.Reason.{Reason}
 use Rattle.outgoing.specs.declared.answer.Reason.TheVariants.{BadSack, BadSetting, BadTime, NotSent, NoWindow, NoPlace, TooMany, NotSound}
 use Rattle.outgoing.specs.declared.answer.Outcome.{Outcome}
 use Rattle.outgoing.specs.declared.answer.Outcome.TheVariants.{Done, Refused}
-use Rattle.outgoing.specs.declared.answer.NumberTold.{NumberTold}
-use Rattle.outgoing.specs.declared.answer.NumberTold.TheVariants.{Number, Refused as NumberRefused}
-use Rattle.outgoing.specs.declared.answer.SeqTold.{SeqTold}
-use Rattle.outgoing.specs.declared.answer.SeqTold.TheVariants.{Seq, Refused as SeqRefused}
-use Rattle.outgoing.specs.declared.answer.RangeTold.{RangeTold}
-use Rattle.outgoing.specs.declared.answer.RangeTold.TheVariants.{Range, Refused as RangeRefused}
-use Rattle.outgoing.specs.declared.answer.TruthTold.{TruthTold}
-use Rattle.outgoing.specs.declared.answer.TruthTold.TheVariants.{Truth, Refused as TruthRefused}
-use Rattle.outgoing.specs.declared.answer.LostTold.{LostTold}
-use Rattle.outgoing.specs.declared.answer.LostTold.TheVariants.{Lost, Refused as LostRefused}
-use Rattle.outgoing.specs.Answers.{reason_number, outcome, number_told, seq_told, range_told, truth_told, lost_told}
+use Rattle.outgoing.specs.declared.answer.Told.{Told}
+use Rattle.outgoing.specs.declared.answer.Told.TheVariants.{Is, Refused as NotTold}
+use Rattle.outgoing.specs.Answers.{reason_number, outcome, answer_told}
 
 -- the reason of a number
 abbrev reason_of : ℕ → Reason
@@ -50,32 +42,9 @@ outcome_one Done (Refused r) e = differ tt (reason_number r) e
 outcome_one (Refused r) Done e = differ tt (reason_number r) (sym e)
 outcome_one (Refused r) (Refused r') e = ap Refused (refusal_one r r' e)
 
-pub number_one : (x y : NumberTold) → number_told x ≡ number_told y → x ≡ y
-number_one (Number n) (Number n') e = let q : n ≡ n' = cc in ap Number q
-number_one (Number n) (NumberRefused r) e = differ n (reason_number r) e
-number_one (NumberRefused r) (Number n) e = differ n (reason_number r) (sym e)
-number_one (NumberRefused r) (NumberRefused r') e = ap NumberRefused (refusal_one r r' e)
-
-pub seq-one : (x y : SeqTold) → seq_told x ≡ seq_told y → x ≡ y
-seq-one (Seq n) (Seq n') e = let q : n ≡ n' = cc in ap Seq q
-seq-one (Seq n) (SeqRefused r) e = differ n (reason_number r) e
-seq-one (SeqRefused r) (Seq n) e = differ n (reason_number r) (sym e)
-seq-one (SeqRefused r) (SeqRefused r') e = ap SeqRefused (refusal_one r r' e)
-
-pub range_one : (x y : RangeTold) → range_told x ≡ range_told y → x ≡ y
-range_one (Range n) (Range n') e = let q : n ≡ n' = cc in ap Range q
-range_one (Range n) (RangeRefused r) e = differ n (reason_number r) e
-range_one (RangeRefused r) (Range n) e = differ n (reason_number r) (sym e)
-range_one (RangeRefused r) (RangeRefused r') e = ap RangeRefused (refusal_one r r' e)
-
-pub truth_one : (x y : TruthTold) → truth_told x ≡ truth_told y → x ≡ y
-truth_one (Truth n) (Truth n') e = let q : n ≡ n' = cc in ap Truth q
-truth_one (Truth n) (TruthRefused r) e = differ n (reason_number r) e
-truth_one (TruthRefused r) (Truth n) e = differ n (reason_number r) (sym e)
-truth_one (TruthRefused r) (TruthRefused r') e = ap TruthRefused (refusal_one r r' e)
-
-pub lost_one_lem : (x y : LostTold) → lost_told x ≡ lost_told y → x ≡ y
-lost_one_lem (Lost n) (Lost n') e = let q : n ≡ n' = cc in ap Lost q
-lost_one_lem (Lost n) (LostRefused r) e = differ n (reason_number r) e
-lost_one_lem (LostRefused r) (Lost n) e = differ n (reason_number r) (sym e)
-lost_one_lem (LostRefused r) (LostRefused r') e = ap LostRefused (refusal_one r r' e)
+-- Of whatever is told.
+pub answer_told_one : {A : Type 0} (x y : Told A) → answer_told x ≡ answer_told y → x ≡ y
+answer_told_one (Is a) (Is a') e = let q : a ≡ a' = cc in ap Is q
+answer_told_one (Is a) (NotTold r) e = differ a (reason_number r) e
+answer_told_one (NotTold r) (Is a) e = differ a (reason_number r) (sym e)
+answer_told_one (NotTold r) (NotTold r') e = ap NotTold (refusal_one r r' e)

@@ -1,10 +1,13 @@
 -- Laws of the chain: a step goes forward within the datagram, and a chain is its first step and the chain from there.
-use Rattle.std.specs.Prelude.{ℕ, zero, suc, ◌+◌, ◌-◌, ◌≤◌, ◌<◌, Bool, true, false, cond, List, [], ◌≡◌, refl, length, get_or, leb, eqb}
+use Rattle.std.specs.Prelude.{ℕ, zero, suc, ◌+◌, ◌-◌, ◌≤◌, ◌<◌, Bool, true, false, cond, List, [], ◌≡◌, refl, length, get_or, leb, eqb, Option, Some, None}
 use Rattle.std.proofs.Common.{arith, ◌∙◌, ap, leb-true, eqb-true}
 use Rattle.common.specs.Answer.{Answer, done, refused}
-use Rattle.packet.specs.Chain.{Next, ends, onward, step_of, extension_at, next_at, inside, Chain, past, whole, before, go_on, chain_by, chain_from, end_of, read_of}
+use Rattle.packet.specs.Chain.{Next, ends, onward, step_of, extension_at, next_at, Sacked, inside, Chain, past, whole, before, go_on, chain_by, chain_from, end_of, read_of}
+use Rattle.std.specs.Option.{option_or}
+use Rattle.packet.specs.Answers.{sacked}
 use Rattle.packet.specs.declared.extension.Cursor.{Cursor}
 use Rattle.packet.specs.declared.extension.Extension.{Extension}
+use Rattle.packet.specs.declared.extension.Part.{Part}
 
 -- What a step tells of the bytes: by the three tests, one case each.
 module _ (d : List ℕ) (c : Cursor) where
@@ -92,3 +95,30 @@ read_sack x at (whole es place) e f = rw e (ap (λ (n : ℕ). done (inside x.bod
 pub read_past : (x : Extension) (k : Chain) → end_of k ≡ refused 4 → read_of (before x k) ≡ refused 4
 read_past x past f = refl
 read_past x (whole es at) f = let z : ◌≡◌ {A = ℕ} 0 1 = cc in absurd (omega arith)
+
+-- What is kept of a whole chain, from the first SACK of what was passed and what is kept of the rest.
+abbrev pub with_sack : Option Part → Answer (Sacked × ℕ) → Answer (Sacked × ℕ)
+with_sack None rest = rest
+with_sack (Some p) (done (sack, at)) = done (inside p, at)
+with_sack (Some p) (refused n) = refused n
+
+-- Past the end nothing is kept, and at the end of the chain the SACK that was passed, if there was one.
+pub sack_past : (sack : Option Part) (k : Chain) → k ≡ past → with_sack sack (read_of k) ≡ refused 4
+sack_past None k e = ap read_of e
+sack_past (Some p) k e = ap (λ (c : Chain). with_sack (Some p) (read_of c)) e
+
+pub sack_ends : (sack : Option Part) (at : ℕ) (k : Chain) → k ≡ whole [] at → with_sack sack (read_of k) ≡ done (sacked sack, at)
+sack_ends None at k e = ap read_of e
+sack_ends (Some p) at k e = ap (λ (c : Chain). with_sack (Some p) (read_of c)) e
+
+-- Passing an extension: a SACK is kept if it is the first one, and any other extension changes nothing.
+pub sack_passed : (sack : Option Part) (x : Extension) (k : Chain) → eqb x.number 1 ≡ true → with_sack sack (read_of (before x k)) ≡ with_sack (option_or sack (Some x.body)) (read_of k)
+sack_passed None x past e = refl
+sack_passed (Some p) x past e = refl
+sack_passed None x (whole es at) e = rw e
+sack_passed (Some p) x (whole es at) e = refl
+
+pub other_passed : (sack : Option Part) (x : Extension) (k : Chain) → eqb x.number 1 ≡ false → with_sack sack (read_of (before x k)) ≡ with_sack sack (read_of k)
+other_passed None x k e = read_before x k e
+other_passed (Some p) x past e = refl
+other_passed (Some p) x (whole es at) e = refl

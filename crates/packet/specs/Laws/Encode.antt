@@ -28,7 +28,7 @@ pub plain-put :
 plain-put h payload l r₁ r₂ long e₁ e₂ = put_on l _ _ _ _ 20 e₁ e₂ (header-length h 0) long
 
 -- The head of an extension of n bytes, as one number of two bytes.
-head_bytes : (n : ℕ) → n < 256 → bytes 2 n ≡ 0 ∷ n ∷ []
+pub head_bytes : (n : ℕ) → n < 256 → bytes 2 n ≡ 0 ∷ n ∷ []
 head_bytes n h =
     let high : n / 256 ≡ 0 = omega arith in
     let low : n % 256 ≡ n = omega arith in

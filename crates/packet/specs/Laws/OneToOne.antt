@@ -1,5 +1,5 @@
 -- No two answers have the same number and values: each map of Answers can be undone.
-use Rattle.std.specs.Prelude.{ℕ, zero, suc, ◌≡◌, refl}
+use Rattle.std.specs.Prelude.{ℕ, zero, suc, ◌≡◌, refl, Option, Some, None, Result, Ok, Err}
 use Rattle.std.proofs.Common.{ap}
 use Rattle.common.specs.Answer.{Answer, done, refused}
 use Rattle.common.specs.Laws.OneToOne.{by_inverse}
@@ -9,12 +9,11 @@ use Rattle.packet.specs.declared.kind.PacketType.{PacketType}
 use Rattle.packet.specs.declared.kind.TypeRead.{TypeRead}
 use Rattle.packet.specs.declared.kind.TypeRead.TheVariants.{Known, UnknownType as TypeUnknown}
 use Rattle.packet.specs.declared.sack.SackReason.{SackReason}
-use Rattle.packet.specs.declared.sack.Checked.{Checked}
-use Rattle.packet.specs.declared.sack.Checked.TheVariants.{Fine, Bad}
 use Rattle.packet.specs.declared.header.HeaderReason.TheVariants.{TooShort, UnknownType, UnknownVersion}
 use Rattle.packet.specs.declared.sack.SackReason.TheVariants.{SackShort, SackNotWords, SackLong}
-use Rattle.packet.specs.declared.extension.Step.{Step}
-use Rattle.packet.specs.declared.extension.Step.TheVariants.{Ends, Extension as StepPast, Found}
+use Rattle.packet.specs.declared.extension.Extension.{Extension as Found}
+use Rattle.packet.specs.declared.extension.Cursor.{Cursor}
+use Rattle.packet.specs.declared.extension.PastEnd.{PastEnd}
 use Rattle.packet.specs.declared.decode.Packet.{Packet}
 use Rattle.packet.specs.declared.decode.Reason.{Reason}
 use Rattle.packet.specs.declared.decode.Reason.TheVariants.{BadHeader, Extension, BadSack, EmptyData}
@@ -72,31 +71,31 @@ type_read_one_to_one = by_inverse type_read back undone
     undone (Known t) = refl
     undone TypeUnknown = refl
 
-pub checked_one_to_one : (a b : Checked) → checked a ≡ checked b → a ≡ b
+pub checked_one_to_one : (a b : Result ℕ SackReason) → checked a ≡ checked b → a ≡ b
 checked_one_to_one = by_inverse checked back undone
   where
-    back : Answer ℕ → Checked
-    back (done n) = Fine n
-    back (refused n) = Bad (sack_reason n)
+    back : Answer ℕ → Result ℕ SackReason
+    back (done n) = Ok n
+    back (refused n) = Err (sack_reason n)
 
-    undone : (a : Checked) → back (checked a) ≡ a
-    undone (Fine n) = refl
-    undone (Bad SackShort) = refl
-    undone (Bad SackNotWords) = refl
-    undone (Bad SackLong) = refl
+    undone : (a : Result ℕ SackReason) → back (checked a) ≡ a
+    undone (Ok n) = refl
+    undone (Err SackShort) = refl
+    undone (Err SackNotWords) = refl
+    undone (Err SackLong) = refl
 
-pub stepped_one_to_one : (a b : Step) → stepped a ≡ stepped b → a ≡ b
+pub stepped_one_to_one : (a b : Result (Option (Found × Cursor)) PastEnd) → stepped a ≡ stepped b → a ≡ b
 stepped_one_to_one = by_inverse stepped back undone
   where
-    back : Answer Next → Step
-    back (done ends) = Ends
-    back (done (onward e next)) = Found e next
-    back (refused n) = StepPast
+    back : Answer Next → Result (Option (Found × Cursor)) PastEnd
+    back (done ends) = Ok None
+    back (done (onward e next)) = Ok (Some (e, next))
+    back (refused n) = Err (record {})
 
-    undone : (a : Step) → back (stepped a) ≡ a
-    undone Ends = refl
-    undone (Found e next) = refl
-    undone StepPast = refl
+    undone : (a : Result (Option (Found × Cursor)) PastEnd) → back (stepped a) ≡ a
+    undone (Ok None) = refl
+    undone (Ok (Some (e, next))) = refl
+    undone (Err p) = refl
 
 pub decoded_one_to_one : (a b : Decoded) → decoded a ≡ decoded b → a ≡ b
 decoded_one_to_one = by_inverse decoded back undone

@@ -1,18 +1,15 @@
 -- Equal numbers and values mean equal answers: each answer is read back from them.
-use Rattle.std.specs.Prelude.{ℕ, true, false, cond, List, [], ◌∷◌, ◌≡◌, eqb}
+use Rattle.std.specs.Prelude.{ℕ, Bool, true, false, cond, List, [], ◌∷◌, ◌≡◌, eqb}
 use Rattle.std.proofs.Math.Path.{refl}
 use Rattle.std.proofs.Common.{ap, sym, ◌∙◌}
-use Rattle.recv.specs.Numbers.{number_of, of_creation, of_writing, of_count, of_truth, of_number}
-use Rattle.recv.specs.declared.Count.{Count}
-use Rattle.recv.specs.declared.Count.TheVariants.{Is as count_is, Refused as count-refused}
+use Rattle.seq.specs.declared.SeqNum.{SeqNum}
+use Rattle.recv.specs.Numbers.{number_of, of_creation, of_writing, of_told, of_count, of_truth, of_number}
 use Rattle.recv.specs.declared.Creation.{Creation}
 use Rattle.recv.specs.declared.Creation.TheVariants.{Made, Refused as creation-refused}
-use Rattle.recv.specs.declared.Number.{Number}
-use Rattle.recv.specs.declared.Number.TheVariants.{Is as number_is, Refused as number-refused}
 use Rattle.recv.specs.declared.Refusal.{Refusal}
 use Rattle.recv.specs.declared.Refusal.TheVariants.{NoRoom, BadSetting, TooMany, TooFarAhead, PayloadTooLong, OtherLength, NotSound}
-use Rattle.recv.specs.declared.Truth.{Truth}
-use Rattle.recv.specs.declared.Truth.TheVariants.{Is as truth-is, Refused as truth-refused}
+use Rattle.recv.specs.declared.Told.{Told}
+use Rattle.recv.specs.declared.Told.TheVariants.{Is, Refused as told-refused}
 use Rattle.recv.specs.declared.Writing.{Writing}
 use Rattle.recv.specs.declared.Writing.TheVariants.{Stored, AlreadyThere, Refused as writing-refused}
 
@@ -80,33 +77,25 @@ of_writing_one_to_one = one_to_one of_writing (answer pick Stored writing-refuse
     back AlreadyThere = refl
     back (writing-refused why) = refused_back pick Stored writing-refused why
 
-pub of_count_one_to_one : (a b : Count) → of_count a ≡ of_count b → a ≡ b
-unfolding answer
-of_count_one_to_one = one_to_one of_count (answer count_is (count_is 0) count-refused) back
+-- of any type, where each value is read back from its number
+module _ {A : Type 0} (value : A → ℕ) (from : ℕ → A) (reads : (a : A) → from (value a) ≡ a) where
+  pub of_told_one_to_one : (a b : Told A) → of_told value a ≡ of_told value b → a ≡ b
+  unfolding answer
+  of_told_one_to_one = one_to_one (of_told value) (answer (λ v. Is (from v)) (Is (from 0)) told-refused) back
+    where
+      back : (a : Told A) → answer (λ v. Is (from v)) (Is (from 0)) told-refused (of_told value a) ≡ a
+      back (Is a) = ap Is (reads a)
+      back (told-refused why) = refused_back (λ v. Is (from v)) (Is (from 0)) told-refused why
+
+pub of_count_one_to_one : (a b : Told ℕ) → of_count a ≡ of_count b → a ≡ b
+of_count_one_to_one = of_told_one_to_one (λ n. n) (λ v. v) (λ n. refl)
+
+pub of_truth_one_to_one : (a b : Told Bool) → of_truth a ≡ of_truth b → a ≡ b
+of_truth_one_to_one = of_told_one_to_one (λ b. cond b 1 0) (λ v. eqb v 1) reads
   where
-    back : (a : Count) → answer count_is (count_is 0) count-refused (of_count a) ≡ a
-    back (count_is n) = refl
-    back (count-refused why) = refused_back count_is (count_is 0) count-refused why
+    reads : (b : Bool) → eqb (cond b 1 0) 1 ≡ b
+    reads true = refl
+    reads false = refl
 
-pub of_truth_one_to_one : (a b : Truth) → of_truth a ≡ of_truth b → a ≡ b
-unfolding answer
-of_truth_one_to_one = one_to_one of_truth (answer pick (truth-is true) truth-refused) back
-  where
-    pick : ℕ → Truth
-    pick v = truth-is (eqb v 1)
-
-    back : (a : Truth) → answer pick (truth-is true) truth-refused (of_truth a) ≡ a
-    back (truth-is true) = refl
-    back (truth-is false) = refl
-    back (truth-refused why) = refused_back pick (truth-is true) truth-refused why
-
-pub of_number_one_to_one : (a b : Number) → of_number a ≡ of_number b → a ≡ b
-unfolding answer
-of_number_one_to_one = one_to_one of_number (answer pick (pick 0) number-refused) back
-  where
-    pick : ℕ → Number
-    pick v = number_is (record { 0 = v })
-
-    back : (a : Number) → answer pick (pick 0) number-refused (of_number a) ≡ a
-    back (number_is n) = refl
-    back (number-refused why) = refused_back pick (pick 0) number-refused why
+pub of_number_one_to_one : (a b : Told SeqNum) → of_number a ≡ of_number b → a ≡ b
+of_number_one_to_one = of_told_one_to_one (λ n. n.0) (λ v. record { 0 = v }) (λ n. refl)

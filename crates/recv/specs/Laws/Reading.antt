@@ -9,11 +9,11 @@ use Rattle.recv.specs.Calls.{receiver_of, over, state_of, room_of, ready_for, ta
 use Rattle.recv.specs.Laws.Cases.{cond_true, cond_false, and_true, and_false}
 use Rattle.recv.specs.Laws.State.{Sound}
 use Rattle.recv.specs.Laws.Stored.{state_read, room_read, out_read}
-use Rattle.recv.specs.declared.Count.{Count}
-use Rattle.recv.specs.declared.Count.TheVariants.{Is, Refused}
+use Rattle.recv.specs.declared.Answered.{Answered}
 use Rattle.recv.specs.declared.ReceiveBuffer.{ReceiveBuffer}
 use Rattle.recv.specs.declared.Refusal.TheVariants.{OtherLength, NotSound}
-use Rattle.recv.specs.declared.Taken.{Taken}
+use Rattle.recv.specs.declared.Told.{Told}
+use Rattle.recv.specs.declared.Told.TheVariants.{Is, Refused}
 
 -- what is known where bytes are taken
 pub record Takes (s : ReceiveBuffer) (buf out : List ℕ) (n : ℕ) : Type 0 where
@@ -67,9 +67,9 @@ module _ (s : ReceiveBuffer) (buf out : List ℕ) where
     unready = and_false (sound_of s) _ no
 
     pub unsound_taken : record { answer = Refused NotSound; state = s } ≡ taken_of s buf out
-    unsound_taken = sym (cond_false _ _ _ unready ∙ ap (λ (c : Count). mk c) (cond_false _ _ _ no))
+    unsound_taken = sym (cond_false _ _ _ unready ∙ ap (λ (c : Told ℕ). mk c) (cond_false _ _ _ no))
       where
-        mk : Count → Taken
+        mk : Told ℕ → Answered (Told ℕ) ReceiveBuffer
         mk c = record { answer = c; state = s }
 
     pub unsound_room : buf ≡ taken_room_of s buf out
@@ -83,9 +83,9 @@ module _ (s : ReceiveBuffer) (buf out : List ℕ) where
     not_for = and_true (sound_of s) _ yes ∙ ne_eqb (length buf) s.length other
 
     pub other_taken : record { answer = Refused OtherLength; state = s } ≡ taken_of s buf out
-    other_taken = sym (cond_false _ _ _ not_for ∙ ap (λ (c : Count). mk c) (cond_true _ _ _ yes))
+    other_taken = sym (cond_false _ _ _ not_for ∙ ap (λ (c : Told ℕ). mk c) (cond_true _ _ _ yes))
       where
-        mk : Count → Taken
+        mk : Told ℕ → Answered (Told ℕ) ReceiveBuffer
         mk c = record { answer = c; state = s }
 
     pub other_room : buf ≡ taken_room_of s buf out
@@ -102,7 +102,7 @@ module _ (s : ReceiveBuffer) (buf out : List ℕ) where
         → record { answer = Is n; state = after } ≡ taken_of s buf out
     done_taken n after e h = ap (λ (a : ReceiveBuffer). mk n a) h ∙ ap (λ (k : ℕ). mk k (state_of s.waiting (read_of (receiver_of s buf) k))) e ∙ sym (cond_true _ _ _ ready_for_lem)
       where
-        mk : ℕ → ReceiveBuffer → Taken
+        mk : ℕ → ReceiveBuffer → Answered (Told ℕ) ReceiveBuffer
         mk k a = record { answer = Is k; state = a }
 
     pub done_room : (n : ℕ) (after : List ℕ) → n ≡ min (length out) s.ready → after ≡ room_of buf (read_of (receiver_of s buf) n) → after ≡ taken_room_of s buf out

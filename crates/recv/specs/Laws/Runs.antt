@@ -22,8 +22,10 @@ use Rattle.recv.specs.Laws.Cases.{cond_true, and_true, eq_or_ne, lt_or_ge}
 use Rattle.recv.specs.Laws.Payloads.{joined-append, none-payloads}
 use Rattle.recv.specs.Laws.Shape.{Shape, over_back, shape_of, ready_length, lengths_table, stands_for, shape_sound, room_length, table-length, shape_stored, shape_read}
 use Rattle.recv.specs.Laws.State.{Sound, sound_facts, sound_test}
-use Rattle.recv.specs.declared.Count.TheVariants.{Is}
-use Rattle.recv.specs.declared.Taken.{Taken}
+use Rattle.recv.specs.declared.Answered.{Answered}
+use Rattle.recv.specs.declared.ReceiveBuffer.{ReceiveBuffer}
+use Rattle.recv.specs.declared.Told.{Told}
+use Rattle.recv.specs.declared.Told.TheVariants.{Is}
 use Rattle.recv.specs.declared.Writing.{Writing}
 use Rattle.recv.specs.declared.Writing.TheVariants.{Stored, AlreadyThere, Refused}
 
@@ -264,7 +266,7 @@ module _ (r : Run) (good : Delivered r) where
     after_read = read_of rec n
 
     -- what a read leaves, from what it answers, the buffer and the output
-    left : Taken → List ℕ → List ℕ → Run
+    left : Answered (Told ℕ) ReceiveBuffer → List ℕ → List ℕ → Run
     left t b o = record { state = t.state; bytes = b; stored = r.stored; read = r.read ++ output_of t.answer o }
 
     was_read : take n (over (take n rec.ready) out) ≡ take n rec.ready
@@ -276,7 +278,7 @@ module _ (r : Run) (good : Delivered r) where
     step_is : step_of r (read out) ≡ record { state = state_of r.state.waiting after_read; bytes = room_of r.bytes after_read; stored = r.stored; read = r.read ++ take n rec.ready }
     unfolding rec n after_read left
     step_is =
-        ap (λ (t : Taken). left t (taken_room_of r.state r.bytes out) (taken_out_of r.state r.bytes out)) (cond_true _ _ _ ready_for_lem)
+        ap (λ (t : Answered (Told ℕ) ReceiveBuffer). left t (taken_room_of r.state r.bytes out) (taken_out_of r.state r.bytes out)) (cond_true _ _ _ ready_for_lem)
         ∙ ap (λ (b : List ℕ). left (record { answer = Is n; state = state_of r.state.waiting after_read }) b (taken_out_of r.state r.bytes out)) (cond_true _ _ _ ready_for_lem)
         ∙ ap (λ (o : List ℕ). left (record { answer = Is n; state = state_of r.state.waiting after_read }) (room_of r.bytes after_read) o) (cond_true _ _ _ ready_for_lem)
         ∙ ap (λ (l : List ℕ). with_read l) was_read

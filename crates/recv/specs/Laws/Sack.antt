@@ -10,9 +10,9 @@ use Rattle.recv.specs.Table.{waits, binary_of, tabled, sack_bit_of, sack_byte_of
 use Rattle.recv.specs.State.{table_of, sound_of}
 use Rattle.recv.specs.Calls.{acked_of, acked_room_of}
 use Rattle.recv.specs.Laws.Cases.{cond_true, cond_false, and_true, and_false, lt_or_ge}
-use Rattle.recv.specs.declared.Count.TheVariants.{Is, Refused}
 use Rattle.recv.specs.declared.ReceiveBuffer.{ReceiveBuffer}
 use Rattle.recv.specs.declared.Refusal.TheVariants.{NoRoom, NotSound}
+use Rattle.recv.specs.declared.Told.TheVariants.{Is, Refused}
 
 -- ---- a list by its places
 
@@ -107,6 +107,11 @@ module _ (s : ReceiveBuffer) (room : List ℕ) where
 
       pub done_acked : Is n ≡ acked_of s (length room)
       done_acked = ap Is e ∙ sym (cond_true _ _ _ yes ∙ cond_true _ _ _ enough)
+
+      pub done_acked_over : sack_of (table_of s) ++ drop n room ≡ acked_room_of s room
+      done_acked_over =
+          ap (λ (m : ℕ). sack_of (table_of s) ++ drop m room) e
+          ∙ sym (cond_true _ _ _ (and_true (sound_of s) _ yes ∙ enough))
 
       pub done_acked_room : (after : List ℕ) → after ≡ paste room 0 (sack_of (table_of s)) n → after ≡ acked_room_of s room
       done_acked_room after h =

@@ -1,10 +1,19 @@
 -- Laws of the table of waiting lengths.
 use Rattle.std.specs.Prelude.{ℕ, zero, suc, ◌+◌, ◌-◌, ◌≤◌, ◌<◌, Bool, true, false, cond, not, ◌||◌, List, [], ◌∷◌, ◌≡◌, refl, leb, eqb, length, take, drop, get_or}
-use Rattle.std.proofs.Common.{zero-le, ap, sym, ◌∙◌, add_assoc, not-suc-le-zero, le_of_suc-le-suc, arith, le-leb, leb-false, lt-ltb, le-ltb, ne_eqb, length-take, drop_of_length-le, get_or-take}
+use Rattle.std.proofs.Common.{one-add, zero-le, ap, sym, ◌∙◌, add_assoc, not-suc-le-zero, le_of_suc-le-suc, arith, le-leb, leb-false, lt-ltb, le-ltb, ne_eqb, length-take, drop_of_length-le, get_or-take}
 use Rattle.std.proofs.lemmas.Bool.{lt-leb}
 use Rattle.std.proofs.Math.ListN.{get_or-eq_default}
 use Rattle.std.proofs.Math.Seq.{drop-nil}
+use Rattle.std.specs.List.{sum_by, count_by, prefix_len}
+use Rattle.std.proofs.lemmas.List.Recursion.{is_sum_by}
 use Rattle.recv.specs.Table.{waits, bytes_in, how_many, last_waits, run_of, waits_at, there_of}
+
+-- the sum and the count of std
+pub bytes_in_sum : (l : List ℕ) → bytes_in l ≡ sum_by (λ x. x - 1) l
+bytes_in_sum = is_sum_by bytes_in (λ x. x - 1) refl (λ x xs. refl)
+
+pub how_many_count : (l : List ℕ) → how_many l ≡ count_by waits l
+how_many_count = is_sum_by how_many (λ x. cond (waits x) 1 0) refl (λ x xs. refl)
 
 pub bytes_in_take_suc : (l : List ℕ) (i : ℕ) → bytes_in (take (suc i) l) ≡ bytes_in (take i l) + (get_or l i 0 - 1)
 bytes_in_take_suc [] zero = refl
@@ -77,6 +86,16 @@ there_behind c o t h = rw (le-leb o c h)
 pub there_ahead : (c o : ℕ) (t : List ℕ) → c < o → there_of c t o ≡ waits_at c t o
 unfolding there_of
 there_ahead c o t h = rw (lt-leb o c h)
+
+pub there_past : (c o : ℕ) (t : List ℕ) → c < o → there_of c t o ≡ waits (get_or t (o - c - 1) 0)
+there_past c o t h = let place : o - (c + 1) ≡ o - c - 1 = omega arith in there_ahead c o t h ∙ rw (lt-ltb c o h, place)
+
+-- ---- the run at the front is the longest that waits
+
+pub run_prefix : (l : List ℕ) → run_of l ≡ prefix_len (λ x. not (eqb x 0)) l
+run_prefix [] = refl
+run_prefix (zero ∷ l) = refl
+run_prefix (suc n ∷ l) = rw (ne_eqb (suc n) 0 (λ e. omega arith)) (ap suc (run_prefix l) ∙ sym (one-add (prefix_len (λ x. not (eqb x 0)) l)))
 
 -- ---- the run at the front of what is left of a table
 

@@ -1,24 +1,24 @@
 -- The tracker in parts: what its arrays hold is what stands in the state, and what a call leaves of them.
-use Rattle.std.specs.Prelude.{◌≡◌, refl, Bool, true, false, cond, List, [], ◌∷◌, ◌++◌, ℕ, zero, suc, ◌*◌, leb, length, take, drop, replicate}
+use Rattle.std.specs.Prelude.{◌≡◌, refl, Bool, true, false, cond, List, ◌∷◌, ℕ, zero, suc, ◌*◌, length, replicate}
 use Rattle.std.proofs.Common.{sym, ap, subst, ◌∙◌, arith}
-use Rattle.common.specs.Answer.{Answer, done, refused, ◌then◌}
+use Rattle.common.specs.Answer.{Answer, done, refused}
 use Rattle.packet.specs.Kind.{type_answer}
-use Rattle.seq.specs.declared.SeqNum.{SeqNum}
 use Rattle.packet.specs.declared.kind.PacketType.{PacketType}
+use Rattle.seq.specs.declared.SeqNum.{SeqNum}
 use Rattle.congestion.specs.declared.settings.Settings.{Settings}
 use Rattle.controller.specs.Delays.{no_sample}
-use Rattle.sent_lent.specs.declared.head.Head.{Head}
-use Rattle.outgoing.specs.declared.kept.Packet.{Packet}
+use Rattle.outgoing.specs.Tracker.{no_packet}
+use Rattle.sent.specs.declared.head.Head.{Head}
 use Rattle.sent.specs.declared.state.SentPackets.{SentPackets}
-use Rattle.sent_lent.specs.Lent.{Places, packets_in, times_of, sizes_of, marks_of, pairs_of, whole_in, head_of, headed}
-use Rattle.sent_lent.specs.Laws.LentState.{pairs_back, times_back, sizes_back, marks_back}
-use Rattle.outgoing.specs.Sound.{timeout_of as timed_out_of}
-use Rattle.sent.specs.State.{answered_of, fresh_of, new_answer, state_sound_of, timeout_answer, tracker_of, transmit_answer}
-use Rattle.outgoing.specs.Tracker.{Tracker as Sent, clocked_of, is_kept, no_packet, offset_in, packet_at, with_packet_at}
-use Rattle.outgoing.specs.Transmit.{first_sent, recorded_of, sent_of, transmit_check, transmit_of as sent_by, with_resent}
+use Rattle.sent.specs.State.{fresh_of, new_answer, state_sound_of, timeout_answer, transmit_answer}
+use Rattle.sent.specs.Whole.{head_of, headed}
+use Rattle.sent.specs.Laws.Leaves.{timeout_delays, timeout_packets, transmit_delays}
+use Rattle.sent_lent.specs.declared.columns.Columns.{Columns}
+use Rattle.sent_lent.specs.declared.pairs.Pairs.{Pairs}
+use Rattle.sent_lent.specs.Lent.{Places, samples_in, packets_in, columns_of, pairs_as, times_of, sizes_of, marks_of, pairs_of, whole_in}
+use Rattle.sent_lent.specs.Laws.LentState.{pairs_are, columns_back, pairs_back, times_back, sizes_back, marks_back}
 use Rattle.ribsaddle.specs.Answer.{number_of}
-use Rattle.ribsaddle.specs.Tracker.{Sized, Tracking, created_as, heading_as, heading_of, parts_of, started_as, started_with, timeout_of, tracking_of, transmit_as, transmit_of, whole_of}
-use Rattle.ribsaddle.specs.declared.tracker.Heading.{Heading}
+use Rattle.ribsaddle.specs.Tracker.{Heading, Sized, Tracking, created_as, heading_as, heading_of, parts_of, started_as, started_with, timeout_of, tracking_of, transmit_as, transmit_of, whole_of}
 use Rattle.ribsaddle.specs.declared.tracker.Tracker.{Tracker}
 
 -- ---- a new tracker's arrays hold zeros
@@ -47,10 +47,8 @@ pub fresh_parts : (initial : SeqNum) (settings : Settings) → parts_of (fresh_o
 fresh_parts initial settings = λ i.
     record {
       head = head_of (fresh_of initial settings);
-      samples = pairs_none 1024 i;
-      times = times_none 512 i;
-      sizes = sizes-none 512 i;
-      marks = marks-none 512 i;
+      samples = record { pairs = pairs_none 1024 i };
+      packets = record { times = times_none 512 i; sizes = sizes-none 512 i; marks = marks-none 512 i };
     }
 
 pub started : (old : Tracker) (initial : SeqNum) (settings : Settings) → started_as old (headed (new_answer initial settings)) ≡ created_as old (new_answer initial settings)
@@ -60,26 +58,64 @@ started old initial settings = by_answer (new_answer initial settings).0
     by_answer (done u) = ap (λ (t : Tracker). record { answer = 0; state = t }) (sym (fresh_parts initial settings))
     by_answer (refused n) = refl
 
--- ---- arrays of the right lengths hold what stands in them (Laws.LentState of `sent`)
+-- ---- what a call leaves
+
+-- Head, samples and packets as the parts of one state.
+pub parts_are : (s : SentPackets) (h : Head) (samples : Pairs) (packets : Columns) → h ≡ head_of s → samples ≡ pairs_as s.delays.kept → packets ≡ columns_of s.packets
+    → ◌≡◌ {A = Tracker} (record { head = h; samples = samples; packets = packets }) (parts_of s)
+parts_are s h samples packets e held lie = λ i. record { head = e i; samples = held i; packets = lie i }
+
+-- A tracker in memory is the parts of the state that it makes up, so a call that hands this state back, as a refusal does, leaves every place of the arrays.
+pub parts_whole : (t : Tracker) → Sized t.samples.pairs t.packets.times t.packets.sizes t.packets.marks → parts_of (whole_of t) ≡ t
+parts_whole t sized = sym (parts_are (whole_of t) t.head t.samples t.packets refl (sym (pairs_are t.samples sized.0)) (sym (columns_back t.packets sized.1)))
+
+-- A known type goes to the tracker.
+pub known_left : (t : Tracker) (number kind tag len clock : ℕ) (type : PacketType) → done type ≡ type_answer kind → (n : ℕ) (h : Head) (packets : Columns)
+    → n ≡ number_of (transmit_answer (whole_of t) (record { 0 = number }) type tag len clock).0
+    → h ≡ head_of (transmit_answer (whole_of t) (record { 0 = number }) type tag len clock).1
+    → t.samples ≡ pairs_as (transmit_answer (whole_of t) (record { 0 = number }) type tag len clock).1.delays.kept
+    → packets ≡ columns_of (transmit_answer (whole_of t) (record { 0 = number }) type tag len clock).1.packets
+    → (n ≡ (transmit_of (whole_of t) number kind tag len clock).answer)
+    × (◌≡◌ {A = Tracker} (record { head = h; samples = t.samples; packets = packets }) (parts_of (transmit_of (whole_of t) number kind tag len clock).state))
+unfolding transmit_of
+known_left t number kind tag len clock type known n h packets a e held lie =
+    subst
+    (λ (x : Answer PacketType). (n ≡ number_of (transmit_as (whole_of t) number x tag len clock).0)
+    × (◌≡◌ {A = Tracker} (record { head = h; samples = t.samples; packets = packets }) (parts_of (transmit_as (whole_of t) number x tag len clock).1)))
+    known
+    (a, parts_are (transmit_answer (whole_of t) (record { 0 = number }) type tag len clock).1 h t.samples packets e held lie)
+
+-- A type above 4 is refused with 2, behind 19, and nothing is changed.
+pub unknown_left : (t : Tracker) (number kind tag len clock : ℕ) → refused 2 ≡ type_answer kind → (n : ℕ) (b : Bool) → b ≡ state_sound_of (whole_of t) → n ≡ cond b 2 19
+    → pairs_as (samples_in t.samples.pairs) ≡ t.samples → columns_of (packets_in t.packets.times t.packets.sizes t.packets.marks) ≡ t.packets
+    → (n ≡ (transmit_of (whole_of t) number kind tag len clock).answer) × (t ≡ parts_of (transmit_of (whole_of t) number kind tag len clock).state)
+unfolding transmit_of
+unknown_left t number kind tag len clock known n b sound e held lie =
+    let s = whole_of t in
+    subst (λ (x : Answer PacketType). (n ≡ number_of (transmit_as s number x tag len clock).0) × (t ≡ parts_of (transmit_as s number x tag len clock).1)) known (
+      e ∙ by_test b ∙ ap (λ (c : Bool). number_of {A = Unit {0}} (cond c (refused 2) (refused 19))) sound,
+      parts_are s t.head t.samples t.packets refl (sym held) (sym lie),
+    )
+  where
+    by_test : (c : Bool) → cond c 2 19 ≡ number_of {A = Unit {0}} (cond c (refused 2) (refused 19))
+    by_test true = refl
+    by_test false = refl
+
+-- ---- a new tracker
+
+pub created_done : (old : Tracker) (a : Answer (Unit {0}) × SentPackets) → a.0 ≡ done tt → created_as old a ≡ record { answer = 0; state = parts_of a.1 }
+created_done old a e = ap (λ (x : Answer (Unit {0})). created_as old (x, a.1)) e
+
+pub created_refused : (old : Tracker) (a : Answer (Unit {0}) × SentPackets) (n : ℕ) → a.0 ≡ refused n → created_as old a ≡ record { answer = n; state = old }
+created_refused old a n e = ap (λ (x : Answer (Unit {0})). created_as old (x, a.1)) e
+
+-- ---- what a call leaves of each array
 
 sizes_fit : {times sizes marks : List ℕ} → Places times sizes marks → length sizes ≡ 2 * length times
 sizes_fit p = p.sizes_1024 ∙ sym (ap (λ (n : ℕ). 2 * n) p.times_512)
 
 marks_fit : {times sizes marks : List ℕ} → Places times sizes marks → length marks ≡ 4 * length times
 marks_fit p = p.marks_2048 ∙ sym (ap (λ (n : ℕ). 4 * n) p.times_512)
-
--- A tracker in memory is the parts of the state that it makes up, so a call that hands this state back, as a refusal does, leaves every place of the arrays.
-pub parts_whole : (t : Tracker) → Sized t.samples t.times t.sizes t.marks → parts_of (whole_of t) ≡ t
-parts_whole t sized = λ i.
-    record {
-      head = t.head;
-      samples = pairs_back 1024 t.samples sized.0 i;
-      times = times_back t.times t.sizes t.marks i;
-      sizes = sizes_back t.times t.sizes t.marks (sizes_fit sized.1) i;
-      marks = marks_back t.times t.sizes t.marks (marks_fit sized.1) i;
-    }
-
--- ---- what a call leaves of the arrays
 
 -- The answer and the head beside it, and the arrays on exit, are the definition's.
 abbrev pub Left : Heading → (samples times sizes marks : List ℕ) → Tracking → Type 0
@@ -98,27 +134,6 @@ left_alone h samples times sizes marks k places r t e d p = (
 )
 
 -- ---- a timeout
-
-take_rest : (n : ℕ) (l : List Packet) → take n l ++ drop (length (take n l)) l ≡ l
-take_rest zero l = refl
-take_rest (suc n) [] = refl
-take_rest (suc n) (p ∷ l) = ap (λ (k : List Packet). p ∷ k) (take_rest n l)
-
-timeout_delays : (s : SentPackets) → (timeout_answer s).1.delays ≡ s.delays
-unfolding timeout_answer
-timeout_delays s = by_test (state_sound_of s)
-  where
-    by_test : (b : Bool) → (answered_of s (cond b (done (timed_out_of (tracker_of s))) (refused 19))).1.delays ≡ s.delays
-    by_test true = refl
-    by_test false = refl
-
-timeout_packets : (s : SentPackets) → (timeout_answer s).1.packets ≡ s.packets
-unfolding timeout_answer
-timeout_packets s = by_test (state_sound_of s)
-  where
-    by_test : (b : Bool) → (answered_of s (cond b (done (timed_out_of (tracker_of s))) (refused 19))).1.packets ≡ s.packets
-    by_test true = take_rest s.live s.packets
-    by_test false = refl
 
 pub left_timed_out : (h : Head) (samples times sizes marks : List ℕ) → length samples ≡ 2048 → Places times sizes marks → (r : Heading)
     → r ≡ heading_as (headed (timeout_answer (whole_in h samples times sizes marks))) → Left r samples times sizes marks (timeout_of (whole_in h samples times sizes marks))
@@ -142,26 +157,6 @@ left_unknown h samples times sizes marks k places number kind tag len clock know
     by_test : (t : Bool) → cond t 2 19 ≡ number_of {A = Unit {0}} (cond t (refused 2) (refused 19))
     by_test true = refl
     by_test false = refl
-
-sent_delays : (t : Sent) (o : ℕ) (p : Packet) → (sent_of t o p).delays ≡ t.delays
-unfolding sent_of
-sent_delays t o p = by_test (leb o t.sent) (is_kept t o)
-  where
-    by_test : (b k : Bool) → (cond b (cond k (with_packet_at t o (with_resent (packet_at t o))) t) (recorded_of t p)).delays ≡ t.delays
-    by_test true true = refl
-    by_test true false = refl
-    by_test false k = refl
-
-transmit_delays : (s : SentPackets) (number : SeqNum) (type : PacketType) (tag len clock : ℕ) → (transmit_answer s number type tag len clock).1.delays ≡ s.delays
-unfolding transmit_answer sent_by
-transmit_delays s number type tag len clock =
-    by_test (state_sound_of s) (transmit_check s.numbers s.count (length (tracker_of s).packets) (offset_in (tracker_of s) number) len clock)
-    (clocked_of (sent_of (tracker_of s) (offset_in (tracker_of s) number) (first_sent type tag len clock)) clock) (sent_delays (tracker_of s) (offset_in (tracker_of s) number) (first_sent type tag len clock))
-  where
-    by_test : (b : Bool) (a : Answer (Unit {0})) (t : Sent) → t.delays ≡ s.delays → (answered_of s (cond b (a then done t) (refused 19))).1.delays ≡ s.delays
-    by_test true (done u) t e = e
-    by_test true (refused n) t e = refl
-    by_test false a t e = refl
 
 -- A transmit leaves the samples.
 pub left_transmitted : (h : Head) (samples times sizes marks : List ℕ) → length samples ≡ 2048 → (number kind tag len clock : ℕ) (type : PacketType) → done type ≡ type_answer kind → (r : Heading) (times₁ sizes₁ marks₁ : List ℕ)

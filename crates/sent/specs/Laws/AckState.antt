@@ -1,7 +1,7 @@
 -- What an ack leaves in the state: where nothing was newly acknowledged only the clock, and else the marks, with what is kept moved down.
 use Rattle.std.specs.Prelude.{◌≡◌, refl, Bool, true, false, cond, leb, ltb, eqb, length, take}
 use Rattle.std.proofs.Math.Path.{sym, ap, ap₂}
-use Rattle.std.proofs.Common.{◌∙◌, arith, length-drop, take_at, ne_eqb, eqb-true, leb-true, ltb-false}
+use Rattle.std.proofs.Common.{◌∙◌, arith, length-drop, take_at, eqb-true, leb-true, ltb-false}
 use mathlib.Core.List.{List, ◌++◌}
 use Prim.Native.Nat.{ℕ, ◌+◌, ◌-◌, ◌%◌, ◌≤◌}
 use Rattle.std.proofs.Math.ListN.{drop}
@@ -37,7 +37,7 @@ module _ (s : SentPackets) (full : length s.packets ≡ places) (e : state_sound
   ack_on = record { offset = o; gone = s.count - s.live; count = s.count; base = base; delay = delay; clock = clock }
 
   abbrev pub start_on : Heard
-  start_on = record { packets = s.packets; numbers = s.numbers; news = 0 }
+  start_on = record { packets = s.packets; numbers = s.numbers; news = false }
 
   abbrev pub heard_on : Heard
   heard_on = all_heard_of ack_on start_on (heard_of s.count o mask)
@@ -66,7 +66,7 @@ module _ (s : SentPackets) (full : length s.packets ≡ places) (e : state_sound
 
   -- ---- nothing newly acknowledged
 
-  quiet_same : heard_on.news ≡ 0 → marked_of (tracker_of s) o mask delay clock ≡ tracker_of s
+  quiet_same : heard_on.news ≡ false → marked_of (tracker_of s) o mask delay clock ≡ tracker_of s
   quiet_same q =
       let f = (state_facts s e).1 in
       let none = loss_none s.numbers.last (take s.live s.packets) s.numbers f.packets_sound in
@@ -76,7 +76,7 @@ module _ (s : SentPackets) (full : length s.packets ≡ places) (e : state_sound
       with_packets : List Packet → Numbers → Tracker
       with_packets l n = record { initial = record { 0 = s.initial }; sent = s.count; packets = l; numbers = n; delays = s.delays }
 
-  pub quiet : heard_on.news ≡ 0 → state_with s s.count s.live (accepted_of s.numbers clock) s.packets ≡ ack_state_of s o mask delay clock
+  pub quiet : heard_on.news ≡ false → state_with s s.count s.live (accepted_of s.numbers clock) s.packets ≡ ack_state_of s o mask delay clock
   unfolding ack_state_of
   quiet q =
       let f = (state_facts s e).1 in
@@ -91,7 +91,7 @@ module _ (s : SentPackets) (full : length s.packets ≡ places) (e : state_sound
 
   -- ---- news
 
-  module _ (news : heard_on.news ≡ 0 → ⊥) (run : ℕ) (kept : List Packet) (within : run ≤ s.live)
+  module _ (news : heard_on.news ≡ true) (run : ℕ) (kept : List Packet) (within : run ≤ s.live)
       (run_is : from_unacked (take s.live (loss_heard_of heard_on s.live).packets) ≡ drop run (take s.live (loss_heard_of heard_on s.live).packets))
       (kept_is : kept ≡ take (s.live - run) (drop run (loss_heard_of heard_on s.live).packets) ++ drop (s.live - run) (loss_heard_of heard_on s.live).packets) where
     m : List Packet
@@ -154,8 +154,8 @@ module _ (s : SentPackets) (full : length s.packets ≡ places) (e : state_sound
               packets = l;
             }
 
-        new_sample : cond (eqb heard_on.news 0) s.delays taken ≡ taken
-        new_sample = ap (λ (t : Bool). cond t s.delays taken) (ne_eqb heard_on.news 0 news)
+        new_sample : cond heard_on.news taken s.delays ≡ taken
+        new_sample = ap (λ (t : Bool). cond t taken s.delays) news
 
 -- ---- the whole answer
 

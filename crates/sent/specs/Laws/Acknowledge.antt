@@ -3,6 +3,7 @@ use Rattle.std.specs.Prelude.{◌≡◌, Bool, ◌&&◌, cond, leb, ltb, eqb, le
 use Rattle.std.proofs.Math.Path.{refl, ap, ap₂}
 use Rattle.std.proofs.Common.{sym, ◌∙◌, arith, get_or-take}
 use Rattle.std.proofs.Math.Bool.{true, false}
+use Rattle.std.proofs.lemmas.Bool.{false≢true}
 use mathlib.Core.List.{List, [], ◌∷◌}
 use Prim.Native.Nat.{ℕ, ◌+◌, ◌-◌, ◌≤◌}
 use Rattle.std.proofs.Math.ListN.{get_or, length-set}
@@ -48,15 +49,15 @@ module _ (a : Ack) (initial : SeqNum) (live window : ℕ) (d₀ d₁ : Delays) (
         sent = a.count;
         packets = take live h.packets;
         numbers = h.numbers;
-        delays = cond (eqb h.news 0) d₀ d₁;
+        delays = cond h.news d₁ d₀;
       }
 
   sampled : (h : Heard) → h.numbers.delay_window ≡ window → sampled_of (tracker_at h) a.delay a.clock ≡ d₁
-  sampled h w = ap (taken_of (cond (eqb h.news 0) d₀ d₁) a.delay a.clock) w ∙ by_test (eqb h.news 0)
+  sampled h w = ap (taken_of (cond h.news d₁ d₀) a.delay a.clock) w ∙ by_test h.news
     where
-      by_test : (t : Bool) → taken_of (cond t d₀ d₁) a.delay a.clock window ≡ d₁
-      by_test true = taken
-      by_test false = again
+      by_test : (t : Bool) → taken_of (cond t d₁ d₀) a.delay a.clock window ≡ d₁
+      by_test true = again
+      by_test false = taken
 
   module _ (h : Heard) (few : live ≤ length h.packets) (w : h.numbers.delay_window ≡ window) (o : ℕ) where
     gone_is : gone_of (tracker_at h) ≡ a.gone
@@ -145,22 +146,22 @@ module _ (a : Ack) (initial : SeqNum) (live window : ℕ) (d₀ d₁ : Delays) (
 -- ---- no news
 
 module _ (a : Ack) where
-  news_stays : (os : List ℕ) (h : Heard) → h.news ≡ 1 → (all_heard_of a h os).news ≡ 1
+  news_stays : (os : List ℕ) (h : Heard) → h.news ≡ true → (all_heard_of a h os).news ≡ true
   unfolding all_heard_of newly_heard_of
   news_stays [] h e = e
   news_stays (o ∷ os) h e = news_stays os (heard_step a h o) (by_test (keeps_of a o && is_unacked (get_or h.packets (place_of a o) no_packet)))
     where
-      by_test : (t : Bool) → (cond t (newly_heard_of a h o) h).news ≡ 1
+      by_test : (t : Bool) → (cond t (newly_heard_of a h o) h).news ≡ true
       by_test true = refl
       by_test false = e
 
   -- Where no packet was newly acknowledged, nothing was changed.
-  pub no_news : (os : List ℕ) (h : Heard) → (all_heard_of a h os).news ≡ 0 → all_heard_of a h os ≡ h
+  pub no_news : (os : List ℕ) (h : Heard) → (all_heard_of a h os).news ≡ false → all_heard_of a h os ≡ h
   unfolding all_heard_of newly_heard_of
   no_news [] h e = refl
   no_news (o ∷ os) h e = by_test (λ q. no_news os h q) (keeps_of a o && is_unacked (get_or h.packets (place_of a o) no_packet)) e
     where
-      by_test : ((all_heard_of a h os).news ≡ 0 → all_heard_of a h os ≡ h) → (t : Bool) → (all_heard_of a (cond t (newly_heard_of a h o) h) os).news ≡ 0
+      by_test : ((all_heard_of a h os).news ≡ false → all_heard_of a h os ≡ h) → (t : Bool) → (all_heard_of a (cond t (newly_heard_of a h o) h) os).news ≡ false
           → all_heard_of a (cond t (newly_heard_of a h o) h) os ≡ h
-      by_test again true q = absurd (omega (arith, news_stays os (newly_heard_of a h o) refl, q))
+      by_test again true q = absurd (false≢true (sym q ∙ news_stays os (newly_heard_of a h o) refl))
       by_test again false q = again q

@@ -22,6 +22,15 @@ use Rattle.sent.specs.Laws.Kept.{kept_end}
 use Rattle.sent.specs.Laws.Sound.{state_counts}
 use Rattle.outgoing.specs.Laws.Lost.{lost_length, nth_within, nth_is, lost_append, Rising, Below, swapped_sorted, sorted_length, rising_offsets, below_offsets}
 
+-- How many are lost past the wrap, and before it, where the wrap was worked out.
+pub past_wrap : (s : SentPackets) (wrap n : ℕ) → wrap ≡ wrap_place s.initial (s.count - s.live) s.live
+    → n ≡ lost_count_of (slice wrap s.live s.packets) → n ≡ lost_count_of (slice (wrap_place s.initial (s.count - s.live) s.live) s.live s.packets)
+past_wrap s wrap n w e = e ∙ ap (λ (k : ℕ). lost_count_of (slice k s.live s.packets)) w
+
+pub before_wrap : (s : SentPackets) (wrap n : ℕ) → wrap ≡ wrap_place s.initial (s.count - s.live) s.live
+    → n ≡ lost_count_of (slice 0 wrap s.packets) → n ≡ lost_count_of (slice 0 (wrap_place s.initial (s.count - s.live) s.live) s.packets)
+before_wrap s wrap n w e = e ∙ ap (λ (k : ℕ). lost_count_of (slice 0 k s.packets)) w
+
 module _ (s : SentPackets) (full : length s.packets ≡ places) (e : state_sound_of s ≡ true) (fits : s.initial < 65536) where
   abbrev a : List Packet
   a = s.packets

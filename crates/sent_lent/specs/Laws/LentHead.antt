@@ -1,7 +1,7 @@
 -- The state that a head and lent arrays make up: how many packets stand in the arrays, and what the counts of a sound head say.
 use Rattle.std.specs.Prelude.{◌≡◌, List, ℕ, length, true}
 use Rattle.std.proofs.Common.{◌∙◌}
-use Rattle.sent_lent.specs.declared.head.Head.{Head}
+use Rattle.sent.specs.declared.head.Head.{Head}
 use Rattle.sent.specs.State.{state_sound_of}
 use Rattle.sent_lent.specs.Lent.{whole_in}
 use Rattle.sent.specs.Laws.Sound.{CountsOf, state_counts}

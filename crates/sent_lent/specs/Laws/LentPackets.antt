@@ -1,16 +1,9 @@
 -- The packets that stand in lent arrays: how many they are, what is read at a place, and what stores to the arrays make of them.
-use Rattle.std.specs.Prelude.{◌≡◌, refl, true, false, List, [], ◌∷◌, ℕ, zero, suc, ◌+◌, ◌*◌, ◌<◌, length, get_or, set, drop}
-use Rattle.std.proofs.Common.{sym, ap, ap₂, ◌∙◌, le_of_suc-le-suc, arith, length-set, get_or-drop}
-use Rattle.congestion.specs.declared.numbers.Numbers.{Numbers}
+use Rattle.std.specs.Prelude.{◌≡◌, refl, List, [], ◌∷◌, ℕ, zero, suc, ◌+◌, ◌*◌, ◌<◌, length, get_or, set, drop}
+use Rattle.std.proofs.Common.{ap, ap₂, ◌∙◌, le_of_suc-le-suc, arith, length-set, get_or-drop}
 use Rattle.outgoing.specs.declared.kept.Packet.{Packet}
-use Rattle.outgoing.specs.declared.ack.Ack.{Ack}
-use Rattle.outgoing.specs.declared.ack.Heard.{Heard}
-use Rattle.outgoing.specs.Ack.{with_acked, credited_by}
-use Rattle.outgoing.specs.Hear.{keeps_of, place_of, newly_heard_of, heard_step}
 use Rattle.sent_lent.specs.Lent.{packets_in, Places}
-use Rattle.outgoing.specs.Loss.{is_unacked}
 use Rattle.outgoing.specs.Tracker.{no_packet}
-use Rattle.outgoing.specs.Laws.Hear.{acked_same, unacked_heard}
 
 pub packets_length : (t s m : List ℕ) → length (packets_in t s m) ≡ length t
 unfolding packets_in
@@ -105,20 +98,3 @@ places-put t s m i p h =
           ∙ length-set m (4 * i) p.kind
           ∙ h.marks_2048;
     }
-
--- ---- an ack's step, by what was read and what was stored
-
--- A packet that is kept and acknowledged already.
-pub heard-again : (a : Ack) (h : Heard) (o : ℕ) (p : Packet) → p ≡ get_or h.packets (place_of a o) no_packet → keeps_of a o ≡ true → is_unacked p ≡ false → heard_step a h o ≡ h
-heard-again a h o p read keeps test = acked_same a h o keeps (sym (ap is_unacked read) ∙ test)
-
--- One that is newly acknowledged.
-pub heard_new : (a : Ack) (h : Heard) (o : ℕ) (p q : Packet) (l : List Packet) (n : Numbers) → p ≡ get_or h.packets (place_of a o) no_packet → keeps_of a o ≡ true → is_unacked p ≡ true
-    → q ≡ with_acked p → l ≡ set h.packets (place_of a o) q → n ≡ credited_by a.base a.delay a.clock p h.numbers
-    → heard_step a h o ≡ record { packets = l; numbers = n; news = 1 }
-unfolding newly_heard_of
-heard_new a h o p q l n read keeps test acked stored credited =
-    unacked_heard a h o keeps (sym (ap is_unacked read) ∙ test)
-    ∙ sym (ap₂ (λ (x : List Packet) (y : Numbers). record { packets = x; numbers = y; news = 1 })
-    (stored ∙ ap (set h.packets (place_of a o)) (acked ∙ ap with_acked read))
-    (credited ∙ ap (λ (x : Packet). credited_by a.base a.delay a.clock x h.numbers) read))

@@ -5,8 +5,11 @@ use Rattle.common.specs.Answer.{Answer}
 use Rattle.controller.specs.Delays.{most, list_of, kept_sound_of}
 use Rattle.congestion.specs.Laws.Numbers.{both}
 use Rattle.sent.specs.declared.state.SentPackets.{SentPackets}
-use Rattle.sent_lent.specs.declared.head.Head.{Head}
-use Rattle.sent_lent.specs.Lent.{packets_in, times_of, sizes_of, marks_of, samples_in, pairs_of, Places, whole_in, headed}
+use Rattle.sent.specs.declared.head.Head.{Head}
+use Rattle.sent.specs.Whole.{headed}
+use Rattle.sent_lent.specs.declared.columns.Columns.{Columns}
+use Rattle.sent_lent.specs.declared.pairs.Pairs.{Pairs}
+use Rattle.sent_lent.specs.Lent.{packets_in, times_of, sizes_of, marks_of, samples_in, pairs_of, pairs_as, Places, columns_of, whole_in}
 use Rattle.sent.specs.State.{state_sound_of}
 use Rattle.sent.specs.Laws.Sound.{state_facts}
 
@@ -48,6 +51,18 @@ pairs_back n [] h = refl
 pairs_back zero (delay ∷ samples) h = absurd (omega arith)
 pairs_back (suc n) (delay ∷ []) h = absurd (omega arith)
 pairs_back (suc n) (delay ∷ at ∷ samples) h = ap (λ (l : List ℕ). delay ∷ at ∷ l) (pairs_back n samples (omega arith))
+
+-- Arrays of the right lengths are those of the samples and of the packets that stand in them.
+pub pairs_are : (s : Pairs) → length s.pairs ≡ 2048 → pairs_as (samples_in s.pairs) ≡ s
+pairs_are s long = ap (λ (l : List ℕ). record { pairs = l }) (pairs_back 1024 s.pairs long)
+
+pub columns_back : (c : Columns) → Places c.times c.sizes c.marks → columns_of (packets_in c.times c.sizes c.marks) ≡ c
+columns_back c p = λ i.
+    record {
+      times = times_back c.times c.sizes c.marks i;
+      sizes = sizes_back c.times c.sizes c.marks (omega (arith, p.times_512, p.sizes_1024)) i;
+      marks = marks_back c.times c.sizes c.marks (omega (arith, p.times_512, p.marks_2048)) i;
+    }
 
 -- What one equation of the answer and the whole state says of the head and of each array.
 module _ (o : Answer (Unit {0})) (h : Head) (samples times sizes marks : List ℕ) (p : Places times sizes marks) (x : Answer (Unit {0}) × SentPackets)

@@ -1,6 +1,7 @@
 -- Events: the cases of a known one, and events read one after another.
-use Rattle.std.specs.Prelude.{ℕ, zero, suc, ◌+◌, ◌*◌, ◌-◌, ◌≤◌, ◌<◌, Bool, true, false, ◌&&◌, cond, List, [], ◌∷◌, ◌≡◌, refl, leb, length, take, drop}
+use Rattle.std.specs.Prelude.{ℕ, zero, suc, ◌+◌, ◌*◌, ◌-◌, ◌≤◌, ◌<◌, Bool, true, ◌&&◌, cond, List, [], ◌∷◌, ◌≡◌, refl, leb, length, take, drop}
 use Rattle.std.proofs.Common.{arith, sym, ap, ap₂, ◌∙◌, drop-drop, ne_eqb}
+use Rattle.std.proofs.Math.Bool.{and_assoc, and-true}
 use Rattle.session.specs.declared.event.Event.{Event}
 use Rattle.session.specs.Laws.Number.{field_within, drop_within}
 use Rattle.session.specs.Format.{event_of, events_of, is_timeout, is_known, all_known, sack_size, sack_total}
@@ -30,25 +31,17 @@ events_none n i l e = let none : n - i ≡ 0 = omega arith in ap (λ (k : ℕ). 
 
 -- ---- the walk over them
 
-and_assoc : (a b c : Bool) → a && (b && c) ≡ (a && b) && c
-and_assoc true b c = refl
-and_assoc false b c = refl
-
-and_true : (a : Bool) → a && true ≡ a
-and_true true = refl
-and_true false = refl
-
 pub known_next : (fine known : Bool) (n i : ℕ) (l : List ℕ) (e : Event) → i < n → e ≡ event_of (drop (72 + 24 * i) l) → known ≡ is_known e
     → fine && all_known (events_of (n - i) (drop (72 + 24 * i) l)) ≡ (fine && known) && all_known (events_of (n - (i + 1)) (drop (72 + 24 * (i + 1)) l))
 unfolding all_known
 known_next fine known n i l e h is k =
     let rest = all_known (events_of (n - (i + 1)) (drop (72 + 24 * (i + 1)) l)) in
     ap (λ (es : List Event). fine && all_known es) (events_peel n i l h)
-    ∙ (ap (λ (x : Event). fine && (is_known x && rest)) (sym is) ∙ (ap (λ (b : Bool). fine && (b && rest)) (sym k) ∙ and_assoc fine known rest))
+    ∙ (ap (λ (x : Event). fine && (is_known x && rest)) (sym is) ∙ (ap (λ (b : Bool). fine && (b && rest)) (sym k) ∙ sym (and_assoc fine known rest)))
 
 pub known_done : (fine : Bool) (n i : ℕ) (l : List ℕ) → n ≡ i → fine && all_known (events_of (n - i) l) ≡ fine
 unfolding all_known
-known_done fine n i l e = ap (λ (es : List Event). fine && all_known es) (events_none n i l e) ∙ and_true fine
+known_done fine n i l e = ap (λ (es : List Event). fine && all_known es) (events_none n i l e) ∙ and-true fine
 
 pub total_next : (total size n i : ℕ) (l : List ℕ) (e : Event) → i < n → e ≡ event_of (drop (72 + 24 * i) l) → size ≡ sack_size e
     → total + sack_total (events_of (n - i) (drop (72 + 24 * i) l)) ≡ total + size + sack_total (events_of (n - (i + 1)) (drop (72 + 24 * (i + 1)) l))

@@ -2,6 +2,8 @@
 use Rattle.std.specs.Prelude.{ℕ, zero, suc, ◌+◌, ◌*◌, ◌-◌, ◌≤◌, ◌<◌, Bool, true, false, ◌&&◌, cond, List, [], ◌∷◌, ◌++◌, ◌≡◌, refl, leb, ltb, length, take, drop}
 use Rattle.std.proofs.Common.{arith, append_assoc, sym, ap, ◌∙◌, subst, length-append, length-drop, length-take-le, le-leb, leb-true, ltb-true, ltb-false}
 use Rattle.std.proofs.Math.Seq.{take-append-add, take-append_seam}
+use Rattle.std.proofs.Math.Bool.{and-false}
+use Rattle.std.proofs.lemmas.Bool.{true≢false}
 use Rattle.common.specs.Answer.{Answer, done}
 use Rattle.common.specs.Laws.Put.{put}
 use Rattle.congestion.specs.Laws.Numbers.{both}
@@ -10,7 +12,7 @@ use Rattle.session.specs.declared.replay.Replay.{Replay}
 use Rattle.session.specs.declared.replay.Filled.{Filled}
 use Rattle.session.specs.Lines.{line_text, printed}
 use Rattle.session.specs.Replay.{step_answer, turn_of, turns_of, fill_answer, text_then, start_text, pages_text, start_answer}
-use Rattle.session.specs.Laws.Session.{count_in, true_false}
+use Rattle.session.specs.Laws.Session.{count_in}
 use Rattle.session.specs.Laws.Step.{step_ended}
 use Rattle.session.specs.Laws.Page.{goes_on, turns_all, turns_stop, turns_next}
 use Rattle.session.specs.Laws.Printed.{Stands, rest_of, ended-printed, after, next_stands, stepped, one-printed, start-printed}
@@ -75,16 +77,12 @@ unfolding turn_of
 line_turn file long r s h used room line k e fits p =
     subst (λ (x : Answer (List Line) × Replay). Prints file r used room (turns_of file k (turn_of room used x))) (sym e) (prints_line file long r s h used room line _ e fits p)
 
-and_false : (b : Bool) → (b && false) ≡ false
-and_false true = refl
-and_false false = refl
-
 ended_turn : (file : List ℕ) (r : Replay) (s : Stands file r) (used : ℕ) (room : List ℕ) (k : ℕ) → count_in file ≤ r.index → Prints file r used room (turns_of file k (turn_of room used (step_answer file r)))
 unfolding turn_of
 ended_turn file r s used room k h =
     let q : Filled × List ℕ = (record { used = used; ended = true; replay = r }, room) in
     subst (λ (x : Answer (List Line) × Replay). Prints file r used room (turns_of file k (turn_of room used x))) (step_ended file r (omega (arith, h, s.counts)))
-    (subst (λ (x : Filled × List ℕ). Prints file r used room x) (sym (turns_stop file k q (and_false (leb (used + 126) (length room))))) (prints_ended file r used room s h))
+    (subst (λ (x : Filled × List ℕ). Prints file r used room x) (sym (turns_stop file k q (and-false (leb (used + 126) (length room))))) (prints_ended file r used room s h))
 
 -- Any number of turns.
 turns_print : (file : List ℕ) (long : 76 + 24 * count_in file ≤ length file) (k : ℕ) (r : Replay) (used : ℕ) (room : List ℕ) → Stands file r
@@ -129,8 +127,8 @@ call_further file long r room s h e = by_test (ltb r.index (count_in file)) refl
         let eq : fill_answer file r room ≡ page =
         first
         ∙ (ap (λ (x : Answer (List Line) × Replay). turns_of file (length room - (0 + 1)) (turn_of room 0 x)) (sym (step_ended file r (omega (arith, n, s.counts))))
-        ∙ turns_stop file (length room - (0 + 1)) page (and_false (leb (0 + 126) (length room)))) in
-        absurd (true_false (sym (ap (λ (x : Filled × List ℕ). x.0.ended) eq) ∙ e))
+        ∙ turns_stop file (length room - (0 + 1)) page (and-false (leb (0 + 126) (length room)))) in
+        absurd (true≢false (sym (ap (λ (x : Filled × List ℕ). x.0.ended) eq) ∙ e))
 
 pages_lines : (file : List ℕ) → 76 + 24 * count_in file ≤ length file → (calls : ℕ) (r : Replay) (room : List ℕ) → Stands file r → 126 ≤ length room → count_in file - r.index < calls
     → pages_text file room calls r ≡ rest_of file r

@@ -1,5 +1,6 @@
 -- A file by places: what it is to be a whole session, and that anything else gives 20.
-use Rattle.std.specs.Prelude.{ℕ, ◌+◌, ◌*◌, ◌-◌, ◌≤◌, Bool, true, false, cond, List, ◌≡◌, refl, leb, eqb, length, take, drop}
+use Rattle.std.specs.Prelude.{ℕ, ◌+◌, ◌*◌, ◌-◌, ◌≤◌, Bool, true, false, cond, List, ◌≡◌, refl, leb, eqb, length, take, drop, Some, None}
+use Rattle.std.proofs.lemmas.Option.{cond_some, none-some}
 use Rattle.std.proofs.Common.{add-zero, arith, sym, ap, ap₂, ◌∙◌, length-drop, drop-drop, take_all, le-leb, leb-true, eq-eqb, eqb-true}
 use Rattle.common.specs.Answer.{Answer, done, refused}
 use Rattle.congestion.specs.Laws.Numbers.{both, and_of}
@@ -7,7 +8,7 @@ use Rattle.outgoing.specs.Laws.Checks.{never, held}
 use Rattle.session.specs.declared.event.Event.{Event}
 use Rattle.session.specs.declared.check.Layout.{Layout}
 use Rattle.session.specs.Format.{◌into◌, field_at, Section, section_of, Sections, sections_of, initial_in, settings_in, events_of, all_known, sack_total, Session, session_in, is_whole, session_of}
-use Rattle.session.specs.Check.{layout_in, check_of}
+use Rattle.session.specs.Check.{layout_in, known_total, check_of}
 use Rattle.session.specs.Laws.Number.{field_from, setting_read}
 use Rattle.session.specs.Laws.Event.{events_within, events_length}
 
@@ -220,6 +221,18 @@ not_whole file h = never_done (session_of file) (only_20 file) (λ s e. h (sessi
 
 -- ---- the check
 
+-- What the walk over the events says of them.
+total_is : (file : List ℕ) (n : ℕ) → n ≡ count_in file → known_total (events_of n (drop 72 file)) ≡ known_total (events_in file)
+total_is file n e = ap (λ (k : ℕ). known_total (events_of k (drop 72 file))) e
+
+pub total_none : (file : List ℕ) (n : ℕ) → n ≡ count_in file → None ≡ known_total (events_of n (drop 72 file)) → Whole file → ⊥
+total_none file n e h w =
+    none-some (sack_total (events_in file)) (h ∙ (total_is file n e ∙ ap (λ (b : Bool). cond b (Some (sack_total (events_in file))) None) w.known))
+
+pub total_some : (file : List ℕ) (n total : ℕ) → n ≡ count_in file → Some total ≡ known_total (events_of n (drop 72 file))
+    → (all_known (events_in file) ≡ true) × (sack_total (events_in file) ≡ total)
+total_some file n total e h = cond_some (all_known (events_in file)) (sack_total (events_in file)) total (sym (h ∙ total_is file n e))
+
 pub check_bad : (file : List ℕ) → (Whole file → ⊥) → refused 20 ≡ check_of file
 unfolding check_of
 check_bad file h = sym (ap (λ (a : Answer Session). a into λ s. done (layout_in file s)) (not_whole file h))
@@ -247,6 +260,3 @@ check_facts file l e =
     let w = session_whole file c.value c.came in
     let same : c.value ≡ placed file = done_one c.value (placed file) (sym c.came ∙ whole_session file w) in
     (w, done_one l (layout_in file c.value) (sym c.goes) ∙ ap (layout_in file) same)
-
-pub true_false : true ≡ false → ⊥
-true_false e = let z : ◌≡◌ {A = ℕ} 0 1 = ap (λ (b : Bool). cond b 0 1) e in omega (arith, z)

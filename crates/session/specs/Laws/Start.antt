@@ -1,30 +1,33 @@
 -- The start of a replay.
 use Rattle.std.specs.Prelude.{ℕ, Bool, true, false, not, ◌&&◌, cond, List, ◌≡◌, refl, leb, length, take, drop}
 use Rattle.std.proofs.Common.{arith, sym, ap, ap₂, ◌∙◌, le-leb}
+use Rattle.std.proofs.lemmas.Bool.{true≢false}
 use Rattle.common.specs.Answer.{done, refused}
+use Rattle.congestion.specs.declared.settings.Settings.{Settings}
 use Rattle.congestion.specs.Settings.{in_range_of}
+use Rattle.sent.specs.declared.state.SentPackets.{SentPackets}
 use Rattle.sent.specs.State.{new_answer}
 use Rattle.session.specs.declared.check.Layout.{Layout}
 use Rattle.session.specs.Format.{field_at, settings_in}
 use Rattle.session.specs.Lines.{seq}
 use Rattle.session.specs.Check.{check_of}
-use Rattle.session.specs.Replay.{verdict_of, no_replay, began_at, start_of, start_answer}
-use Rattle.session.specs.Laws.Session.{whole_session, check_facts, check_none, true_false}
+use Rattle.session.specs.Replay.{verdict_of, no_replay, began_at, start_of, start_answer, handed_of}
+use Rattle.session.specs.Laws.Session.{whole_session, check_facts, check_none}
 
 -- ---- 20, then 10
 
 pub verdict_setting : (s r : Bool) → (s && not r) ≡ true → refused 10 ≡ verdict_of s r
-verdict_setting true true e = absurd (true_false (sym e))
+verdict_setting true true e = absurd (true≢false (sym e))
 verdict_setting true false e = refl
-verdict_setting false r e = absurd (true_false (sym e))
+verdict_setting false r e = absurd (true≢false (sym e))
 
 pub verdict_none : (s r : Bool) → s ≡ false → refused 20 ≡ verdict_of s r
 verdict_none s r e = sym (ap (λ (b : Bool). cond b (cond r (done tt) (refused 10)) (refused 20)) e)
 
 pub verdict_ready : (s r : Bool) → (s && not r) ≡ false → s ≡ true → done tt ≡ verdict_of s r
 verdict_ready true true e h = refl
-verdict_ready true false e h = absurd (true_false e)
-verdict_ready false r e h = absurd (true_false (sym h))
+verdict_ready true false e h = absurd (true≢false e)
+verdict_ready false r e h = absurd (true≢false (sym h))
 
 -- ---- all of it
 
@@ -44,3 +47,21 @@ start_there file l in_range e r =
     let range : in_range ≡ in_range_of (settings_in (take 64 (drop 4 file))) = r ∙ ap (λ (b : Bool). b && in_range_of (settings_in (take 64 (drop 4 file)))) fits in
     ap₂ (λ (b : Bool) (x : Layout). (verdict_of true b, began_at x (new_answer (seq (field_at file 4 8)) (settings_in (take 64 (drop 4 file)))).1)) range f.1
     ∙ sym (ap (start_of file) (whole_session file w))
+
+-- What is handed over: 10 where the settings of a session are out of range, and else its replay.
+module _ (file : List ℕ) (l : Layout) (settings : Settings) (in_range : Bool) (there : done l ≡ check_of file) (read : settings ≡ settings_in (take 64 (drop 4 file)))
+    (range : in_range ≡ in_range_of settings) where
+  in_file : in_range ≡ (leb 68 (length file) && in_range_of (settings_in (take 64 (drop 4 file))))
+  in_file =
+      let w = (check_facts file l there).0 in
+      let fits : leb 68 (length file) ≡ true = le-leb 68 (length file) (omega (arith, w.filled)) in
+      range ∙ (ap in_range_of read ∙ sym (ap (λ (b : Bool). b && in_range_of (settings_in (take 64 (drop 4 file)))) fits))
+
+  pub start_bad : in_range ≡ false → refused 10 ≡ handed_of (start_answer file)
+  start_bad e = ap handed_of (start_there file l false there (sym e ∙ in_file))
+
+  pub start_good : (initial : ℕ) (state : SentPackets) → in_range ≡ true → initial ≡ field_at file 4 8 → state ≡ (new_answer (seq initial) settings).1
+      → done (began_at l state) ≡ handed_of (start_answer file)
+  start_good initial state e i s =
+      ap (λ (x : SentPackets). done (began_at l x)) (s ∙ ap₂ (λ (n : ℕ) (x : Settings). (new_answer (seq n) x).1) i read)
+      ∙ ap handed_of (start_there file l true there (sym e ∙ in_file))

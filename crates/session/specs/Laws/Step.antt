@@ -3,7 +3,8 @@ use Rattle.std.specs.Prelude.{ℕ, ◌+◌, ◌*◌, ◌-◌, ◌≤◌, ◌<◌
 use Rattle.std.proofs.Common.{arith, ◌∙◌, le-leb, leb-true, eq-eqb, ne_eqb}
 use Rattle.std.proofs.Math.Bool.{cond}
 use mathlib.Core.List.{List, [], ◌∷◌}
-use Rattle.std.proofs.Math.Path.{sym, ap, ap₂}
+use Rattle.std.proofs.Math.Path.{refl, sym, ap, ap₂}
+use Rattle.std.specs.Bool.{then_some}
 use Rattle.std.proofs.lemmas.Bool.{lt-leb}
 use Rattle.common.specs.Answer.{Answer, done, refused}
 use Rattle.packet.specs.Kind.{type_of}
@@ -16,7 +17,7 @@ use Rattle.session.specs.declared.line.Line.{Line}
 use Rattle.session.specs.declared.replay.Replay.{Replay}
 use Rattle.session.specs.Format.{event_of, is_known, sack_size}
 use Rattle.session.specs.Lines.{seq, number_of}
-use Rattle.session.specs.Replay.{event_at, event_state, shown_of, behind_of, after_of, taken_of, step_of, step_answer}
+use Rattle.session.specs.Replay.{found, event_at, event_state, shown_of, behind_of, after_of, taken_of, step_of, step_answer}
 
 -- ---- the event of an index
 
@@ -38,6 +39,11 @@ module _ (file : List ℕ) (index : ℕ) where
   event_there known e h is k t =
       let x = event_of (drop (72 + 24 * index) file) in
       ap done is ∙ sym (ap₂ (λ (b c : Bool). cond (b && c) (done x) (refused 20)) (le-leb (72 + 24 * index + 24) (length file) h) (ap is_known (sym is) ∙ (sym k ∙ t)))
+
+  pub event_found : (known : Bool) (e : Event) → 72 + 24 * index + 24 ≤ length file → e ≡ event_of (drop (72 + 24 * index) file) → known ≡ is_known e
+      → found (then_some known e) ≡ event_at file index
+  event_found true e h is k = event_there true e h is k refl
+  event_found false e h is k = event-unknown false e h is k refl
 
 -- ---- what the tracker answers
 
@@ -100,6 +106,15 @@ module _ (file : List ℕ) (r : Replay) (e : Event) (size : ℕ) (test : Bool) (
       (le-leb r.sack_at (length file) (omega (arith, fits))) (le-leb (sack_size e) (length file - r.sack_at) (omega (arith, fits)))) in
       t
       ∙ (ap (taken_of r e) part ∙ sym (ap (λ (b : Bool). cond b (taken_of r e (take (sack_size e) (drop r.sack_at file))) (refused 20, r)) (sym within ∙ h)))
+
+-- By the bytes themselves, from a place in the file on.
+module _ (file : List ℕ) (r : Replay) (e : Event) (size : ℕ) (is : size ≡ sack_size e) where
+  pub step_taken : r.sack_at + size ≤ length file → (bytes : List ℕ) (x : Answer (List Line) × Replay) → bytes ≡ take size (drop r.sack_at file) → x ≡ taken_of r e bytes
+      → x ≡ step_of file r (done e)
+  step_taken h bytes x b t =
+      t
+      ∙ (ap (taken_of r e) (b ∙ ap (λ (n : ℕ). take n (drop r.sack_at file)) is)
+      ∙ sym (ap (λ (b : Bool). cond b (taken_of r e (take (sack_size e) (drop r.sack_at file))) (refused 20, r)) (le-leb (r.sack_at + sack_size e) (length file) (omega (arith, h, is)))))
 
 -- ---- a step
 

@@ -17,12 +17,10 @@ returns-then-waiting-ne0 c =
 pub returns-then-waiting-last-eq0 : goal.returns-then-waiting-last-eq0
 returns-then-waiting-last-eq0 c =
     let s = whole c.args.self c.args.waiting.now in
-    let all = c.requires.0 in
     sym (sound_last s (omega arith) (omega arith) (omega arith) (omega arith) (omega arith) (omega arith) (omega arith) c.if-waiting-last-eq0.true)
 
 pub returns : goal.returns
 returns c =
     let s = whole c.args.self c.args.waiting.now in
-    let all = c.requires.0 in
-    ap (λ (n : ℕ). leb (s.ready + n) s.length) c.requires.1.is
+    ap (λ (n : ℕ). leb (s.ready + n) s.length) c.requires.is
     ∙ sym (sound_bytes s (omega arith) (omega arith) (omega arith) (omega arith) (omega arith) (omega arith) (omega arith) (omega arith))

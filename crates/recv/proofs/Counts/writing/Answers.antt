@@ -15,9 +15,6 @@ returns-then-not-is_sound c = sym (answer_unsound _ _ _ _ (sym c.if-not-is_sound
 pub returns-then-size-self : goal.returns-then-size-self
 returns-then-size-self c = sym (answer_other _ _ _ _ (sym c.if-not-is_sound.ensures) c.if-size-self.true)
 
-pub is_there-requires : goal.is_there-requires
-is_there-requires c = (sound_facts _ (sym c.if-not-is_sound.ensures)).places
-
 pub returns-then-is_there : goal.returns-then-is_there
 returns-then-is_there c =
     let a = c.args in
@@ -59,7 +56,7 @@ overflow_sub-self c =
 pub overflow_sub-self-2 : goal.overflow_sub-self-2
 overflow_sub-self-2 c =
     let known = sound_facts _ (sym c.if-not-is_sound.ensures) in
-    let held = c.requires.1.is in
+    let held = c.requires.is in
     omega arith
 
 pub returns-then-n-self : goal.returns-then-n-self
@@ -69,7 +66,7 @@ returns-then-n-self c =
     let o = (offset_of a.number s.initial).0 in
     let same : c.offset_from-distance.result.0 ≡ o = ap (λ (d : Offset). d.0) c.offset_from-distance.ensures in
     let new = sym (ap (λ (k : ℕ). there_of s.count (table_of s) k) same) ∙ sym c.if-is_there.ensures in
-    let held = c.requires.1.is in
+    let held = c.requires.is in
     sym (answer_rule s a.size a.number a.n (sym c.if-not-is_sound.ensures) c.if-size-self.false
     ∙ rule_long s.length s.count s.ready (table_of s) o a.n new (omega arith) (omega arith) (omega arith))
 
@@ -80,6 +77,6 @@ returns c =
     let o = (offset_of a.number s.initial).0 in
     let same : c.offset_from-distance.result.0 ≡ o = ap (λ (d : Offset). d.0) c.offset_from-distance.ensures in
     let new = sym (ap (λ (k : ℕ). there_of s.count (table_of s) k) same) ∙ sym c.if-is_there.ensures in
-    let held = c.requires.1.is in
+    let held = c.requires.is in
     sym (answer_rule s a.size a.number a.n (sym c.if-not-is_sound.ensures) c.if-size-self.false
     ∙ rule_stored s.length s.count s.ready (table_of s) o a.n new (omega arith) (omega arith) (omega arith))

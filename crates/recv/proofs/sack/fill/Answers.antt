@@ -1,24 +1,27 @@
--- A turn is `paste-suc`.
-use Rattle.std.proofs.Common.{◌≡◌, ℕ, List, take, set, get_or, sym, ap, ◌∙◌, zero-add, add-one, arith, length-set}
-use Rattle.std.proofs.Math.Seq.{paste, paste-suc}
+-- A turn is `paste_more`; at the end the room is filled.
+use Rattle.std.proofs.Common.{◌≡◌, ◌+◌, ◌≤◌, ℕ, List, ◌++◌, length, get_or, sym, ap, ◌∙◌, zero-add, arith, append-nil, drop_of_length-le}
+use Rattle.std.proofs.lemmas.List.Edits.{paste_more, paste_all}
 use Rattle.recv.specs.Table.{sack_of}
 use Rattle.recv.specs.Laws.Sack.{length-sack, sack_at}
 use Rattle.recv.proofs.sack.fill.Goals as goal
 
 pub loop-k-preserved : goal.loop-k-preserved
 loop-k-preserved c =
-    let a = c.args in
-    let turn = c.loop-k in
-    let t = take a.span a.waiting.now in
-    let sack = sack_of t in
-    let k = turn.k in
+    let t = c.args.table.now in
+    let k = c.loop-k.k in
     let size = length-sack t in
-    let byte : c.byte.result ≡ get_or sack k 0 = c.byte.ensures ∙ sym (sack_at t k (omega arith)) in (
-      omega arith,
-      ap (λ (l : List ℕ). set l k c.byte.result) turn.invariant.1
-          ∙ ap (λ (v : ℕ). set (paste a.room.now 0 sack k) k v) byte
-          ∙ ap (λ (i : ℕ). set (paste a.room.now 0 sack k) i (get_or sack k 0)) (sym (zero-add k))
-          ∙ paste-suc a.room.now 0 sack k 0 (omega arith) (omega arith)
-          ∙ ap (λ (n : ℕ). paste a.room.now 0 sack n) (sym (add-one k)),
-      length-set turn.room k c.byte.result ∙ turn.invariant.2,
-    )
+    let byte : c.byte.result ≡ get_or (sack_of t) k 0 = c.byte.ensures ∙ sym (sack_at t k (omega arith)) in
+    let more = paste_more c.args.room.now 0 (sack_of t) k 0 (omega arith) (omega arith) in
+    cc (zero-add k)
+
+pub returns : goal.returns
+returns c =
+    let sack = sack_of c.args.table.now in
+    let room = c.args.room.now in
+    let k = c.loop-k.k in
+    let size = length-sack c.args.table.now in
+    let none : length room ≤ 0 + k = omega arith in
+    c.loop-k.invariant
+    ∙ paste_all room 0 sack k (omega arith)
+    ∙ ap (λ (l : List ℕ). sack ++ l) (drop_of_length-le room {i = 0 + k} none)
+    ∙ append-nil sack

@@ -1,10 +1,9 @@
 -- Those before `run` are acknowledged, so the run goes on from there.
-use Rattle.std.proofs.Common.{◌≡◌, ◌≤◌, ◌-◌, take, drop}
+use Rattle.std.proofs.Common.{◌≡◌, take, drop}
 use Rattle.outgoing.specs.Ack.{from_unacked}
 use Rattle.sent.proofs.ack.acked_run.Given as goal
 
 abbrev pub invariant-loop-run : goal.invariant-loop-run
-invariant-loop-run l = (from_unacked (take l.live l.packets) ≡ from_unacked (drop l.run (take l.live l.packets))) × (l.run ≤ l.live)
-
-abbrev pub decreases-loop-run : goal.decreases-loop-run
-decreases-loop-run l = l.live - l.run
+invariant-loop-run g l =
+    let kept = take l.live (g.P.Packets.packets l.packets) in
+    from_unacked kept ≡ from_unacked (drop l.run kept)

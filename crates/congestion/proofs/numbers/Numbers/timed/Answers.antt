@@ -10,7 +10,7 @@ use Rattle.congestion.proofs.numbers.Numbers.timed.Goals.{After-next_variance-va
 
 pub returns : goal.returns
 unfolding timed_of
-returns c = simp (c.larger.ensures, c.next_variance-variance.ensures, c.next_trip-moved.ensures)
+returns c = simp (c.max.ensures, c.next_variance-variance.ensures, c.next_trip-moved.ensures)
 
 trip_to : (c : After-next_variance-variance) → c.next_trip-moved.result ≤ 2 ^ 50
 trip_to c =

@@ -1,21 +1,25 @@
 -- A turn takes one of those that are left, and the last leaves none.
-use Rattle.std.proofs.Common.{ℕ, ◌+◌, not, ◌&&◌, leb, arith, sym, ap, ◌∙◌}
-use Rattle.session.specs.Laws.Page.{turns_stop, turns_none, turns_next}
+use Rattle.std.proofs.Common.{arith, false, sym, ◌≡◌, ◌∙◌}
+use Rattle.session.specs.Laws.Page.{goes_on as on, stops_ended, stops_full, goes, turns_stop, turns_none, turns_next}
 use Rattle.session.proofs.replay.Replay.fill.Goals as goal
+use Rattle.session.proofs.replay.Replay.fill.Goals.{then-page-via-then-page, then-page-via-else-page+then-not-has_room}
 
-pub returns-then-not-goes_on : goal.returns-then-not-goes_on
-returns-then-not-goes_on c =
-    let l = c.loop-i in
-    let stops = ap (λ (n : ℕ). leb (l.page.used + 126) n && not l.page.ended) l.invariant.1 ∙ (sym c.goes_on.ensures ∙ c.if-not-goes_on.true) in
+pub returns-then-page : goal.returns-then-page
+returns-then-page c =
+    let l = c.loop-turn in
+    let stops : on (l.page, l.room) ≡ false = elim c.then-page.branch [
+      | then-page-via-then-page w ↦ stops_ended (l.page, l.room) w.if-page.true
+      | then-page-via-else-page+then-not-has_room w ↦ stops_full (l.page, l.room) (sym w.has_room.ensures ∙ w.if-not-has_room.true)
+    ] in
     sym (l.invariant.2 ∙ turns_stop c.args.file.now _ (l.page, l.room) stops)
 
-pub loop-i-preserved : goal.loop-i-preserved
-loop-i-preserved c =
-    let l = c.loop-i in
-    let goes = ap (λ (n : ℕ). leb (l.page.used + 126) n && not l.page.ended) l.invariant.1 ∙ (sym c.goes_on.ensures ∙ c.if-not-goes_on.false) in
-    (omega arith, c.turn-page.auto.room ∙ l.invariant.1, l.invariant.2 ∙ turns_next c.args.file.now _ l.i (l.page, l.room) _ c.loop-i-test.true goes c.turn-page.ensures)
+pub loop-turn-preserved : goal.loop-turn-preserved
+loop-turn-preserved c =
+    let l = c.loop-turn in
+    let more = goes (l.page, l.room) (sym c.has_room.ensures ∙ c.if-not-has_room.false) c.if-page.false in
+    (omega arith, c.turn-page.auto.room ∙ l.invariant.1, l.invariant.2 ∙ turns_next c.args.file.now _ l._turn (l.page, l.room) _ c.loop-turn-test.true more c.turn-page.ensures)
 
 pub returns : goal.returns
 returns c =
-    let l = c.loop-i in
-    sym (l.invariant.2 ∙ turns_none c.args.file.now _ l.i (l.page, l.room) c.loop-i-test.false)
+    let l = c.loop-turn in
+    sym (l.invariant.2 ∙ turns_none c.args.file.now _ l._turn (l.page, l.room) c.loop-turn-test.false)
