@@ -99,7 +99,7 @@ pub(crate) struct Receiver<'a, 'b> {
 impl Receiver<'_, '_> {
     // Does what the first event of these bytes says, and compares. An event of a kind that there is
     // not counts as a run, and differs, as one does that is cut off.
-    pub fn compare(&mut self, event: &[u8]) -> Compared {
+    pub(crate) fn compare(&mut self, event: &[u8]) -> Compared {
         let (kind, is_same) = match Kind::try_from(number(event, 0, 1)) {
             Ok(kind) => (kind, self.is_same(kind, event)),
             Err(UnknownKind) => (Kind::Run, false),

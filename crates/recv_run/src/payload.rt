@@ -30,7 +30,7 @@ pub(crate) struct Bytes {
 }
 
 impl Bytes {
-    pub fn new() -> Self {
+    pub(crate) fn new() -> Self {
         Self { offset: 1, at: 0 }
     }
 

@@ -16,7 +16,7 @@ pub(crate) struct Totals {
 
 impl Totals {
     // What a write answered.
-    pub fn written(&mut self, answer: Writing) {
+    pub(crate) fn written(&mut self, answer: Writing) {
         match answer {
             Writing::Stored => self.stored = self.stored.wrapping_add(1),
             Writing::AlreadyThere => self.there = self.there.wrapping_add(1),
@@ -25,13 +25,13 @@ impl Totals {
     }
 
     // So many bytes were read, and so many of them were not those that were sent.
-    pub fn taken(&mut self, count: usize, wrong: usize) {
+    pub(crate) fn taken(&mut self, count: usize, wrong: usize) {
         self.read = self.read.wrapping_add(count as u64);
         self.wrong = self.wrong.wrapping_add(wrong as u64);
     }
 
     // An acknowledgement was built, with so many bytes of SACK.
-    pub fn acked(&mut self, count: usize) {
+    pub(crate) fn acked(&mut self, count: usize) {
         self.acks = self.acks.wrapping_add(1);
         self.bits = self.bits.wrapping_add(count as u64);
     }

@@ -62,8 +62,9 @@ fn print_bad(rt: &impl Print, bad: Bad, room: &mut [u8]) -> Result<()> {
 // Replays what was read. Fails where not all was written.
 fn replay(rt: &impl Print, file: &[u8]) -> Result<()> {
     let mut room = [0; 65536];
-    match Replay::start(file) {
-        Ok(start) => print_lines(rt, start, file, &mut room),
+    let started = Replay::start(file);
+    match started.answer {
+        Ok(()) => print_lines(rt, started.replay, file, &mut room),
         Err(bad) => print_bad(rt, bad, &mut room),
     }
 }

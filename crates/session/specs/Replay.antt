@@ -12,6 +12,7 @@ use Rattle.outgoing.specs.Read.{in_flight_in, maximum_in, timeout_in, lost_count
 use Rattle.session.specs.declared.event.Event.{Event}
 use Rattle.session.specs.declared.line.Line.{Line}
 use Rattle.session.specs.declared.replay.Replay.{Replay}
+use Rattle.session.specs.declared.replay.Started.{Started}
 use Rattle.session.specs.declared.replay.StepReason.{StepReason}
 use Rattle.session.specs.declared.replay.Stepped.{Stepped}
 use Rattle.session.specs.declared.replay.Filled.{Filled}
@@ -24,9 +25,12 @@ use Rattle.session.specs.Answers.{bad_number, longest, step_number}
 
 -- ---- the start
 
-abbrev pub started : Result Replay Bad → Answer Replay
-started (Ok r) = done r
-started (Err b) = refused (bad_number b)
+abbrev pub start_told : Result (Unit {0}) Bad → Answer (Unit {0})
+start_told (Ok t) = done t
+start_told (Err b) = refused (bad_number b)
+
+abbrev pub started : Started → Answer (Unit {0}) × Replay
+started s = (start_told s.answer, s.replay)
 
 -- 20 goes before 10.
 abbrev pub verdict_of : Bool → Bool → Answer (Unit {0})
@@ -44,7 +48,7 @@ no_settings =
       delay_window = 0;
     }
 
--- What stands beside the answer for a file that is no session: no event, and a tracker that is not sound.
+-- What is handed back for a file that is no session: no event, and a tracker that is not sound.
 abbrev pub no_replay : Replay
 no_replay = record { index = 0; count = 0; sack_at = 0; state = (new_answer (seq 0) no_settings).1 }
 
@@ -61,11 +65,6 @@ start_of file (refused n) = (refused n, no_replay)
 
 unfoldable pub start_answer : List ℕ → Answer (Unit {0}) × Replay
 start_answer file = start_of file (session_of file)
-
--- The replay is handed over where it may go on; beside a refusal none is.
-abbrev pub handed_of : Answer (Unit {0}) × Replay → Answer Replay
-handed_of (done x, r) = done r
-handed_of (refused n, r) = refused n
 
 -- ---- a step
 

@@ -2,7 +2,7 @@
 ghost use Rattle.std.specs.Prelude.{◌≡◌};
 ghost use Rattle.session.specs.Answers.{step_number};
 
-use crate::line::Line;
+use crate::line::{Bad, Line};
 use sent::state::SentPackets;
 
 // Where a replay stands: the index of the next event and how many there are, the place of the SACK
@@ -14,6 +14,15 @@ pub struct Replay {
     pub count: u32,
     pub sack_at: usize,
     pub state: SentPackets,
+}
+
+// What a file is answered, and the replay before its first event; beside a refusal it has no sound
+// tracker.
+// (Document 01: a state is a plain value, handed in and handed back.)
+#[derive(Clone, Copy)]
+pub struct Started {
+    pub answer: Result<(), Bad>,
+    pub replay: Replay,
 }
 
 // Why a step is refused, which no replay of a file from its start meets: the event or its SACK

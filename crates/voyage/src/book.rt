@@ -31,7 +31,7 @@ pub(crate) struct Handed {
 
 impl Book {
     // Before the first step.
-    pub fn new(plan: Plan) -> Self {
+    pub(crate) fn new(plan: Plan) -> Self {
         Self {
             plan,
             drawn: key(plan.seed, 0),
@@ -43,14 +43,14 @@ impl Book {
     }
 
     // Time goes on, a number is drawn, and nothing is told yet.
-    pub fn go_on(&mut self) {
+    pub(crate) fn go_on(&mut self) {
         self.drawn = next(self.drawn);
         self.clock = self.clock.wrapping_add(self.drawn / 65536 % 20000);
         self.told = Told::Nothing;
     }
 
     // Notes what a step told, and counts a refusal.
-    pub fn tell(&mut self, told: Told) {
+    pub(crate) fn tell(&mut self, told: Told) {
         self.told = told;
         if let Some(refusal) = told.refusal() {
             self.counts.refuse(refusal);
@@ -59,7 +59,7 @@ impl Book {
 
     // A packet goes into the channel. Where all places are held it is lost; what the writer refuses
     // is counted.
-    pub fn put(&mut self, header: Header, sack: &[u8], payload: &[u8]) {
+    pub(crate) fn put(&mut self, header: Header, sack: &[u8], payload: &[u8]) {
         let depth = self.plan.depth;
         match self.channel.put(depth, header, sack, payload) {
             Ok(()) => {}
@@ -70,7 +70,7 @@ impl Book {
 
     // The channel does something with the first datagram from the place `start` on. It stays there,
     // or leaves it.
-    pub fn pass(&mut self, way: Way, start: u64) -> Option<Handed> {
+    pub(crate) fn pass(&mut self, way: Way, start: u64) -> Option<Handed> {
         let held = self.channel.pick(start)?;
         match way {
             Way::Repeat => add(&mut self.counts.repeated, 1),

@@ -48,7 +48,7 @@ impl Place {
 }
 
 impl Channel {
-    pub fn new() -> Self {
+    pub(crate) fn new() -> Self {
         let free = Place {
             room: [0; 1024],
             length: None,
@@ -57,7 +57,7 @@ impl Channel {
     }
 
     // Writes a packet at the first free place of so many.
-    pub fn put(
+    pub(crate) fn put(
         &mut self,
         depth: usize,
         header: Header,
@@ -79,7 +79,7 @@ impl Channel {
     }
 
     // The first datagram from the place `start` on and round.
-    pub fn pick(&self, start: u64) -> Option<Held> {
+    pub(crate) fn pick(&self, start: u64) -> Option<Held> {
         let first = (start % 64) as usize;
         (first..64)
             .chain(0..first)
@@ -87,7 +87,7 @@ impl Channel {
     }
 
     // The bytes of a datagram, which stay until the next one is put.
-    pub fn bytes(&self, held: Held) -> &[u8] {
+    pub(crate) fn bytes(&self, held: Held) -> &[u8] {
         match self.places.get(held.place) {
             Some(place) => front(&place.room, held.length),
             None => b"",
@@ -95,7 +95,7 @@ impl Channel {
     }
 
     // Takes a datagram out.
-    pub fn free(&mut self, held: Held) {
+    pub(crate) fn free(&mut self, held: Held) {
         if let Some(place) = self.places.get_mut(held.place) {
             place.length = None;
         }

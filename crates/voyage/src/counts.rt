@@ -23,7 +23,7 @@ pub(crate) fn add(count: &mut u64, more: u64) {
 }
 
 impl Counts {
-    pub fn new() -> Self {
+    pub(crate) fn new() -> Self {
         Self {
             packets: 0,
             lost: 0,
@@ -38,13 +38,13 @@ impl Counts {
     }
 
     // Counts a refusal.
-    pub fn refuse(&mut self, refusal: Refusal) {
+    pub(crate) fn refuse(&mut self, refusal: Refusal) {
         add(&mut self.refusals, 1);
         add(&mut self.refused[refusal.number() as usize % 32], 1);
     }
 
     // Adds what another run counted.
-    pub fn add_all(&mut self, other: &Counts) {
+    pub(crate) fn add_all(&mut self, other: &Counts) {
         add(&mut self.packets, other.packets);
         add(&mut self.lost, other.lost);
         add(&mut self.repeated, other.repeated);

@@ -65,12 +65,12 @@ pub(crate) fn kind_of(size: usize) -> PacketType {
 
 impl Plan {
     // The key of the payload of an offset.
-    pub fn payload(&self, offset: u32) -> u64 {
+    pub(crate) fn payload(&self, offset: u32) -> u64 {
         key(self.seed, offset)
     }
 
     // The length of the payload of an offset. Every eighth is empty, so no two in a row are.
-    pub fn size_of(&self, offset: u32) -> usize {
+    pub(crate) fn size_of(&self, offset: u32) -> usize {
         if offset % 8 == 5 {
             return 0;
         }
@@ -78,12 +78,12 @@ impl Plan {
     }
 
     // The offset of a number.
-    pub fn offset_of(&self, number: SeqNum) -> u32 {
+    pub(crate) fn offset_of(&self, number: SeqNum) -> u32 {
         u32::from(number.offset_from(self.initial).0)
     }
 
     // What the sender's tracker is set up with.
-    pub fn settings(&self) -> Settings {
+    pub(crate) fn settings(&self) -> Settings {
         let seed = self.seed;
         Settings {
             target_delay: 1000 + key(seed, 11) % 200000,
@@ -97,7 +97,7 @@ impl Plan {
     }
 
     // The plan of a seed.
-    pub fn of_seed(seed: u64) -> Self {
+    pub(crate) fn of_seed(seed: u64) -> Self {
         // Small packets and a small buffer.
         let plan = Self {
             seed,

@@ -31,7 +31,7 @@ fn given<T>(told: recv::Told<T>) -> Result<T, Refusal> {
 
 impl<'a> Receiver<'a> {
     // A fresh one, over a buffer.
-    pub fn new(plan: &Plan, buffer: &'a mut [u8]) -> Self {
+    pub(crate) fn new(plan: &Plan, buffer: &'a mut [u8]) -> Self {
         let created = ReceiveBuffer::new(plan.initial, buffer.len());
         Self {
             state: created.state,
@@ -42,7 +42,7 @@ impl<'a> Receiver<'a> {
     }
 
     // All was read.
-    pub fn is_done(&self) -> bool {
+    pub(crate) fn is_done(&self) -> bool {
         self.state.ready == 0
     }
 
@@ -52,7 +52,7 @@ impl<'a> Receiver<'a> {
     }
 
     // A packet arrives, in a datagram.
-    pub fn arrive(&mut self, packet: Packet, datagram: &[u8]) -> Told {
+    pub(crate) fn arrive(&mut self, packet: Packet, datagram: &[u8]) -> Told {
         let number = packet.header.seq_num;
         let before = self.ack_num();
         let payload = packet.payload.bytes(datagram);
@@ -102,7 +102,7 @@ impl<'a> Receiver<'a> {
     }
 
     // Up to so many bytes are read, and each is compared.
-    pub fn read(&mut self, book: &mut Book, most: u64) {
+    pub(crate) fn read(&mut self, book: &mut Book, most: u64) {
         let mut room = [0u8; 4096];
         let out = &mut room[..(most % 4096) as usize];
         let taken = self.state.read(self.buffer, out);
@@ -130,7 +130,7 @@ impl<'a> Receiver<'a> {
 
     // An ack is built, with room for so many bytes of SACK, and goes into the channel. It tells the
     // free room of the same moment, and a delay that was drawn.
-    pub fn build(&self, book: &mut Book, most: u64) {
+    pub(crate) fn build(&self, book: &mut Book, most: u64) {
         let mut room = [0u8; 4096];
         let room = &mut room[..(most % 4096) as usize];
         match self.acknowledge(room) {

@@ -15,7 +15,7 @@ pub(crate) enum Refusal {
 
 impl Refusal {
     // The answer's number.
-    pub fn number(self) -> u32 {
+    pub(crate) fn number(self) -> u32 {
         match self {
             Refusal::Reader(reason) => reason.number(),
             Refusal::Writer(reason) => reason.number(),

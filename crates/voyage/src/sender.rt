@@ -45,12 +45,12 @@ fn tell_sent(book: &mut Book, number: SeqNum, size: usize, is_first: bool) {
 }
 
 impl<'a> Sender<'a> {
-    pub fn new(tracker: Tracker<'a>) -> Self {
+    pub(crate) fn new(tracker: Tracker<'a>) -> Self {
         Self { tracker }
     }
 
     // All was sent and acknowledged.
-    pub fn is_done(&self, plan: &Plan) -> bool {
+    pub(crate) fn is_done(&self, plan: &Plan) -> bool {
         plan.to_send <= self.tracker.sent() && self.tracker.live() == 0
     }
 
@@ -117,21 +117,21 @@ impl<'a> Sender<'a> {
     }
 
     // The next packet is sent, by a clock that is so far back.
-    pub fn send(&mut self, book: &mut Book, far: u64, back: u64) {
+    pub(crate) fn send(&mut self, book: &mut Book, far: u64, back: u64) {
         let due = self.next_due(book, far);
         let clock = book.clock.saturating_sub(back);
         self.transmit_due(book, due, clock);
     }
 
     // A lost packet is sent again.
-    pub fn send_lost(&mut self, book: &mut Book, position: u64) {
+    pub(crate) fn send_lost(&mut self, book: &mut Book, position: u64) {
         let due = self.lost_due(position);
         let clock = book.clock;
         self.transmit_due(book, due, clock);
     }
 
     // After a timeout event all that is not acknowledged is sent again.
-    pub fn time_out(&mut self, book: &mut Book) {
+    pub(crate) fn time_out(&mut self, book: &mut Book) {
         if let Err(refusal) = self.tracker.on_timeout() {
             book.tell(Told::Unsent(SeqNum(0), refusal));
             return;
@@ -147,7 +147,7 @@ impl<'a> Sender<'a> {
     }
 
     // An ack is heard, in a datagram.
-    pub fn hear(&mut self, packet: Packet, datagram: &[u8], clock: u64) -> Told {
+    pub(crate) fn hear(&mut self, packet: Packet, datagram: &[u8], clock: u64) -> Told {
         let number = packet.header.ack_num;
         let sack = packet.sack.bytes(datagram);
         let delay = u64::from(packet.header.ts_diff_micros);

@@ -31,7 +31,7 @@ pub(crate) enum Told {
 
 impl Told {
     // The refusal, where a call was refused.
-    pub fn refusal(self) -> Option<Refusal> {
+    pub(crate) fn refusal(self) -> Option<Refusal> {
         match self {
             Told::Unsent(_, refusal)
             | Told::Unheard(_, refusal)

@@ -13,7 +13,7 @@ pub(crate) struct Totals {
 }
 
 impl Totals {
-    pub fn new() -> Self {
+    pub(crate) fn new() -> Self {
         Self {
             runs: 0,
             differ: 0,
@@ -22,7 +22,7 @@ impl Totals {
     }
 
     // One run more.
-    pub fn add(&mut self, run: &Ended) {
+    pub(crate) fn add(&mut self, run: &Ended) {
         add(&mut self.runs, 1);
         add(&mut self.differ, u64::from(run.verdict != Verdict::Equal));
         self.counts.add_all(&run.counts);

@@ -34,17 +34,17 @@ fn given<T>(told: Told<T>) -> Result<T, Refusal> {
 
 impl Tracker<'_> {
     // How many packets were sent.
-    pub fn sent(&self) -> u32 {
+    pub(crate) fn sent(&self) -> u32 {
         self.head.count
     }
 
     // How many places of packets are in use.
-    pub fn live(&self) -> u32 {
+    pub(crate) fn live(&self) -> u32 {
         self.head.live
     }
 
     // The number of the packet at a place, if it is not acknowledged.
-    pub fn unacknowledged(&self, place: u32) -> Option<SeqNum> {
+    pub(crate) fn unacknowledged(&self, place: u32) -> Option<SeqNum> {
         let at = place as usize;
         if 512 <= at {
             return None;
@@ -62,24 +62,24 @@ impl Tracker<'_> {
         Some(SeqNum(initial).at(before.wrapping_add(place).wrapping_add(1)))
     }
 
-    pub fn next_seq_num(&self) -> Result<SeqNum, Refusal> {
+    pub(crate) fn next_seq_num(&self) -> Result<SeqNum, Refusal> {
         let head = self.head;
         given(head.next_seq_num(self.samples, self.packets))
     }
 
     // How many packets are listed as lost.
-    pub fn lost_count(&self) -> Result<u64, Refusal> {
+    pub(crate) fn lost_count(&self) -> Result<u64, Refusal> {
         let head = self.head;
         given(head.lost_count(self.samples, self.packets))
     }
 
     // The lost packet at a position of that list.
-    pub fn lost_at(&self, position: u32) -> Result<LostPacket, Refusal> {
+    pub(crate) fn lost_at(&self, position: u32) -> Result<LostPacket, Refusal> {
         let head = self.head;
         given(head.lost_at(self.samples, self.packets, position))
     }
 
-    pub fn on_transmit(
+    pub(crate) fn on_transmit(
         &mut self,
         number: SeqNum,
         kind: PacketType,
@@ -94,7 +94,7 @@ impl Tracker<'_> {
         of_outcome(stepped.answer)
     }
 
-    pub fn on_ack(
+    pub(crate) fn on_ack(
         &mut self,
         number: SeqNum,
         sack: &[u8],
@@ -108,7 +108,7 @@ impl Tracker<'_> {
         of_outcome(stepped.answer)
     }
 
-    pub fn on_timeout(&mut self) -> Result<(), Refusal> {
+    pub(crate) fn on_timeout(&mut self) -> Result<(), Refusal> {
         let head = self.head;
         let stepped = head.on_timeout(self.samples, self.packets);
         self.head = stepped.head;

@@ -1,17 +1,11 @@
 -- The patterns of a NaN are the NaN.
-use Rattle.std.specs.Prelude.{ℕ, ◌/◌, ◌%◌, ◌<◌, ◌&&◌, Bool, true, not, cond, ◌≡◌, eqb, leb}
-use Rattle.std.proofs.Common.{ap, ap₂, arith, ◌∙◌, eqb-true, eq-eqb, ne_eqb}
+use Rattle.std.specs.Prelude.{ℕ, ◌/◌, ◌%◌, Bool, true, not, cond, ◌≡◌, eqb, leb}
+use Rattle.std.proofs.Common.{ap, ◌∙◌, eqb-true}
 use Rattle.std.specs.Float.{nan, inf, binary64}
 use Rattle.std.specs.Float.Ieee.{top, hid, of_fields, of_bits, nan_bits}
 use Rattle.std.proofs.lemmas.Bool.{not-true}
 use Rattle.congestion.specs.Laws.Numbers.{both}
 use Rattle.session.specs.Format.{gain_of}
-
--- They are those above the pattern of infinity, but for the sign.
-pub nan_above : (bits : ℕ) → 0x7ff0_0000_0000_0000 < bits % 0x8000_0000_0000_0000 → nan_bits binary64 bits ≡ true
-unfolding nan_bits
-nan_above bits h =
-    ap₂ (λ (a b : Bool). a && not b) (eq-eqb (bits % 0x8000_0000_0000_0000 / 0x10_0000_0000_0000) 2047 (omega arith)) (ne_eqb (bits % 0x10_0000_0000_0000) 0 (λ e. omega (arith, e)))
 
 pub nan_gain : (bits : ℕ) → nan_bits binary64 bits ≡ true → gain_of bits ≡ nan
 unfolding gain_of of_bits nan_bits of_fields

@@ -7,12 +7,13 @@ use Rattle.session.specs.declared.line.Bad.TheVariants.{BadSession, BadSetting}
 use Rattle.session.specs.declared.line.Bad.{Bad}
 use Rattle.session.specs.declared.line.NoRoom.{NoRoom}
 use Rattle.session.specs.declared.replay.Replay.{Replay}
+use Rattle.session.specs.declared.replay.Started.{Started}
 use Rattle.session.specs.declared.replay.StepReason.{StepReason}
 use Rattle.session.specs.declared.replay.StepReason.TheVariants.{BadSession as StepBad, NotSound}
 use Rattle.session.specs.declared.replay.Stepped.{Stepped}
 use Rattle.session.specs.Answers.{written}
 use Rattle.session.specs.Laws.Session.{done_one}
-use Rattle.session.specs.Replay.{started, told_of, stepped}
+use Rattle.session.specs.Replay.{start_told, started, told_of, stepped}
 
 -- ---- done is not refused, and no number is another
 
@@ -37,16 +38,21 @@ wrote_one x y e =
 
 -- ---- the start
 
-pub started-one : (x y : Result Replay Bad) → started x ≡ started y → x ≡ y
-started-one (Ok r) (Ok s) e = ap Ok (done_one r s e)
-started-one (Ok r) (Err BadSession) e = differ r 20 e
-started-one (Ok r) (Err BadSetting) e = differ r 10 e
-started-one (Err BadSession) (Ok s) e = differ s 20 (sym e)
-started-one (Err BadSetting) (Ok s) e = differ s 10 (sym e)
-started-one (Err BadSession) (Err BadSession) e = refl
-started-one (Err BadSetting) (Err BadSetting) e = refl
-started-one (Err BadSession) (Err BadSetting) e = let n = number_one {A = Replay} 20 10 e in absurd (omega (arith, n))
-started-one (Err BadSetting) (Err BadSession) e = let n = number_one {A = Replay} 10 20 e in absurd (omega (arith, n))
+start_one : (x y : Result (Unit {0}) Bad) → start_told x ≡ start_told y → x ≡ y
+start_one (Ok s) (Ok t) e = ap Ok (done_one s t e)
+start_one (Ok s) (Err BadSession) e = differ s 20 e
+start_one (Ok s) (Err BadSetting) e = differ s 10 e
+start_one (Err BadSession) (Ok t) e = differ t 20 (sym e)
+start_one (Err BadSetting) (Ok t) e = differ t 10 (sym e)
+start_one (Err BadSession) (Err BadSession) e = refl
+start_one (Err BadSetting) (Err BadSetting) e = refl
+start_one (Err BadSession) (Err BadSetting) e = let n = number_one {A = Unit {0}} 20 10 e in absurd (omega (arith, n))
+start_one (Err BadSetting) (Err BadSession) e = let n = number_one {A = Unit {0}} 10 20 e in absurd (omega (arith, n))
+
+pub started-one : (x y : Started) → started x ≡ started y → x ≡ y
+started-one x y e =
+    ap₂ (λ (a : Result (Unit {0}) Bad) (r : Replay). record { answer = a; replay = r }) (start_one x.answer y.answer (ap (λ (p : Answer (Unit {0}) × Replay). p.0) e))
+    (ap (λ (p : Answer (Unit {0}) × Replay). p.1) e)
 
 -- ---- a step
 

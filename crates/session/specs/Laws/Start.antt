@@ -11,7 +11,7 @@ use Rattle.session.specs.declared.check.Layout.{Layout}
 use Rattle.session.specs.Format.{field_at, settings_in}
 use Rattle.session.specs.Lines.{seq}
 use Rattle.session.specs.Check.{check_of}
-use Rattle.session.specs.Replay.{verdict_of, no_replay, began_at, start_of, start_answer, handed_of}
+use Rattle.session.specs.Replay.{verdict_of, no_replay, began_at, start_of, start_answer}
 use Rattle.session.specs.Laws.Session.{whole_session, check_facts, check_none}
 
 -- ---- 20, then 10
@@ -48,7 +48,7 @@ start_there file l in_range e r =
     ap₂ (λ (b : Bool) (x : Layout). (verdict_of true b, began_at x (new_answer (seq (field_at file 4 8)) (settings_in (take 64 (drop 4 file)))).1)) range f.1
     ∙ sym (ap (start_of file) (whole_session file w))
 
--- What is handed over: 10 where the settings of a session are out of range, and else its replay.
+-- A session is answered by its settings, and its replay stands before its first event.
 module _ (file : List ℕ) (l : Layout) (settings : Settings) (in_range : Bool) (there : done l ≡ check_of file) (read : settings ≡ settings_in (take 64 (drop 4 file)))
     (range : in_range ≡ in_range_of settings) where
   in_file : in_range ≡ (leb 68 (length file) && in_range_of (settings_in (take 64 (drop 4 file))))
@@ -57,11 +57,8 @@ module _ (file : List ℕ) (l : Layout) (settings : Settings) (in_range : Bool) 
       let fits : leb 68 (length file) ≡ true = le-leb 68 (length file) (omega (arith, w.filled)) in
       range ∙ (ap in_range_of read ∙ sym (ap (λ (b : Bool). b && in_range_of (settings_in (take 64 (drop 4 file)))) fits))
 
-  pub start_bad : in_range ≡ false → refused 10 ≡ handed_of (start_answer file)
-  start_bad e = ap handed_of (start_there file l false there (sym e ∙ in_file))
-
-  pub start_good : (initial : ℕ) (state : SentPackets) → in_range ≡ true → initial ≡ field_at file 4 8 → state ≡ (new_answer (seq initial) settings).1
-      → done (began_at l state) ≡ handed_of (start_answer file)
-  start_good initial state e i s =
-      ap (λ (x : SentPackets). done (began_at l x)) (s ∙ ap₂ (λ (n : ℕ) (x : Settings). (new_answer (seq n) x).1) i read)
-      ∙ ap handed_of (start_there file l true there (sym e ∙ in_file))
+  pub start_with : (b : Bool) (initial : ℕ) (state : SentPackets) → in_range ≡ b → initial ≡ field_at file 4 8 → state ≡ (new_answer (seq initial) settings).1
+      → (verdict_of true b, began_at l state) ≡ start_answer file
+  start_with b initial state e i s =
+      ap (λ (x : SentPackets). (verdict_of true b, began_at l x)) (s ∙ ap₂ (λ (n : ℕ) (x : Settings). (new_answer (seq n) x).1) i read)
+      ∙ start_there file l b there (sym e ∙ in_file)
