@@ -64,9 +64,19 @@ def functions():
     return found, homes
 
 
+def conversions():
+    """Every `From` of the crate's own types: its module in src/, and the name under which its function's proof stands."""
+    found = []
+    for module in MODULES:
+        text = (CRATE / "src" / f"{module}.rt").read_text()
+        found += [(module, f"{to}From{of}") for of, to in re.findall(r"^impl From<(\w+)> for (\w+) \{$", text, re.M)]
+    return found
+
+
 def promises():
-    """The file Promises.antt: a record for each function."""
+    """The file Promises.antt: a record for each function, and behind them one for each conversion."""
     found, homes = functions()
+    converted = conversions()
     used = {}                                     # (home, name): the modules whose clauses have it
     for f in found:
         words = set(re.findall(r"(?<!\.)\b\w+\b", f.clause)) | {"◌≡◌"}
@@ -88,8 +98,9 @@ def promises():
     lines = ["-- Every exported function, in the order of the source: nothing is asked of its caller, and no two different outcomes satisfy its promise. An outcome is the answer together with all memory lent to be written.",
              "-- tools/exports.py wrote this file, from the clauses in src/."]
     lines += [f"use {home}.{{{', '.join(sorted(names))}}}" for home, names in sorted(uses.items())]
-    lines += ["use Rattle.common.specs.Promise.{by_value}", "use Rattle.ribsaddle.proofs.Exported.{Exported}"]
+    lines += ["use Rattle.common.specs.Promise.{Promise, by_value}" if converted else "use Rattle.common.specs.Promise.{by_value}", "use Rattle.ribsaddle.proofs.Exported.{Exported}"]
     lines += [f"use Rattle.ribsaddle.specs.contracts.{f.module}.ribsaddle_{f.name} as {f.name}" for f in found]
+    lines += [f"use Rattle.ribsaddle.proofs.{module}.{name}.from.Reads as {name}" for module, name in converted]
     for f in found:
         parts = f.seen()
         seen = "r" if len(parts) == 1 else f"({', '.join(x for x, _ in parts)})"
@@ -98,6 +109,11 @@ def promises():
         lines += ["", f"{f.name}_promise : Exported {f.name}.ended (λ M 𝓤 𝓛. {f.name}.clauses 𝓛) {{W = {types}}} (λ κs r e. {seen})", f"{f.name}_promise =", "    record {",
                   f"      post = λ κs a r e. {f.post(renamed[f.module])};", "      asks_nothing = λ M 𝓤 𝓛 mem run κs a g. refl;", "      says = λ M 𝓤 𝓛 mem run κs a g r e. refl;",
                   f"      promise = by_value _ (λ κs a. tt) (λ κs a r e p. {given});", "    }"]
+    if converted:
+        lines += ["", "-- ---- conversions"]
+    for _, name in converted:
+        record = re.sub(r"(?<!^)(?=[A-Z])", "_", name).lower() + "_promise"
+        lines += ["", f"{record} : Promise {name}.Pre {name}.Post (λ κs r s. r)", f"{record} = by_value _ (λ κs a. tt) (λ κs a r s p. p)"]
     (CRATE / "proofs" / "Promises.antt").write_text("\n".join(lines) + "\n")
     return len(found)
 

@@ -1,5 +1,6 @@
 // The window rule: how far an acknowledgement moves the maximum, in f64, and where it is bounded.
-ghost use Rattle.std.specs.Prelude.{◌≡◌, false, T, pos};
+ghost use Rattle.std.specs.Prelude.{◌≡◌, ◌+ℤ◌, false, T, pos};
+ghost use Rattle.std.specs.Int.{w64, saturate_unsigned};
 ghost use Rattle.std.specs.Float.Ieee as Ieee;
 ghost use Rattle.std.specs.Float.{fin, binary64};
 ghost use Rattle.congestion.specs.Numbers.{minimum_of};
@@ -85,13 +86,21 @@ pub(crate) fn adjustment(numbers: Numbers, base: u64, delay: u64, len: u32) -> i
     truncated(step)
 }
 
+// The maximum moved by the adjustment: a sum below zero is held at 0. None is too large.
+fn moved_maximum(maximum: u32, adjustment: i64) -> u64
+    ensures { result ≡ saturate_unsigned w64 (pos maximum +ℤ adjustment) }
+{
+    (maximum as u64).saturating_add_signed(adjustment)
+}
+
 // The new maximum: the smallest of the larger of the minimum and maximum + adjustment, maximum +
 // increase, and 2^32 - 1.
+#[tactic(auto, using(crate::specs::Laws::Window::sum_held))]
 pub(crate) fn next_maximum(numbers: Numbers, adjustment: i64) -> u32
     ensures { result ≡ next_maximum_of (minimum_of numbers) numbers.increase numbers.maximum adjustment }
 {
     let maximum = numbers.maximum as u64;
-    let sum = maximum.saturating_add_signed(adjustment);
+    let sum = moved_maximum(numbers.maximum, adjustment);
     sum.max(numbers.minimum())
         .min(maximum + (numbers.increase as u64))
         .min(TOP) as u32

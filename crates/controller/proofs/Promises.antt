@@ -1,13 +1,15 @@
 -- Every public function of the crate, in the order of the source: nothing is asked of its caller, and no two different outcomes satisfy its promise.
-use mathlib.Core.List.{Mem}
+use mathlib.Core.List.{List, Mem}
 use Prim.Native.Nat.{ℕ}
 use Rattle.std.proofs.Common.{sym, ap, ◌∙◌}
 use denote.RattleType.{RattleType}
 use denote.Param.Laws.{Laws}
 use mir.Syntax.{Dict}
 use Rattle.controller.specs.declared.delays.Delays.{Delays}
+use Rattle.controller.specs.declared.delays.Sample.{Sample}
 use Rattle.controller.specs.declared.samples.Samples.{Ghosts}
-use Rattle.controller.specs.Delays.{delays_of, list_of, taken_of, base_of, delays_sound_of}
+use Rattle.std.specs.Prelude.{get_or, set}
+use Rattle.controller.specs.Delays.{delays_of, list_of, taken_of, base_of, delays_sound_of, most, no_sample}
 use Rattle.common.specs.Promise.{Promise, by_value, by_code}
 use Rattle.controller.specs.Answers.{outcome}
 use Rattle.controller.specs.Laws.OneToOne.{outcome_one_to_one}
@@ -21,6 +23,9 @@ use Rattle.controller.proofs.delays.Delays.take.Reads as delays-take
 use Rattle.controller.proofs.samples.sound.Reads as samples-sound
 use Rattle.controller.proofs.samples.base_with.Reads as samples-base-with
 use Rattle.controller.proofs.samples.take.Reads as samples-take
+use Rattle.controller.proofs.samples.ArraySample1024Samples.len.Reads as array-len
+use Rattle.controller.proofs.samples.ArraySample1024Samples.sample.Reads as array-sample
+use Rattle.controller.proofs.samples.ArraySample1024Samples.put.Reads as array-put
 use Rattle.controller.proofs.state.Controller.new.Reads as controller-new
 use Rattle.controller.proofs.state.Controller.sound.Reads as controller-sound
 use Rattle.controller.proofs.state.Controller.on_transmit.Reads as controller-on-transmit
@@ -81,6 +86,16 @@ module _ (T : RattleType) (L : Laws T) (S : Ghosts T.Denot) (d : Dict) (plain : 
       (λ κs a. let taken = taken_of (delays_of (S.samples a.0.now) a.1.0) a.1.1.0.delay a.1.1.0.at a.1.1.1.0 in (taken, S.of_samples taken.kept))
       (λ κs a k m. absurd (plain k m))
       (λ κs a r s p. λ i. (p.0 i, (sym p.1 ∙ ap (λ (x : Delays). S.of_samples x.kept) p.0) i))
+
+-- `[Sample; 1024]` as an instance of `Samples`: its samples are what lies in it.
+array_len_promise : Promise array-len.Pre array-len.Post (λ κs r s. r)
+array_len_promise = by_value (λ κs a. most) (λ κs a. tt) (λ κs a r s p. p.0)
+
+array_sample_promise : Promise array-sample.Pre array-sample.Post (λ κs r s. r)
+array_sample_promise = by_value (λ κs a. get_or a.0.now a.1.0 no_sample) (λ κs a. tt) (λ κs a r s p. p.0)
+
+array_put_promise : Promise {W = List Sample} array-put.Pre array-put.Post (λ κs r s. s.0.now)
+array_put_promise = by_value (λ κs a. set a.0.now a.1.0 a.1.1.0) (λ κs a. tt) (λ κs a r s p. p.0)
 
 controller_new_promise : Promise controller-new.Pre controller-new.Post (λ κs r s. r)
 controller_new_promise = by_code outcome outcome_one_to_one _ (λ κs a. tt) (λ κs a r s p. p)

@@ -5,7 +5,7 @@
 #![tactic(auto)]
 
 use feed::Feed;
-use lines::datagram::Line;
+use lines::datagram::{LONGEST, Line};
 use report::failure::failed;
 use report::input::{LONGEST_PATH, path};
 use std::io::{BufRead, BufReader, BufWriter, Read, Result, Write};
@@ -15,13 +15,20 @@ use std::{fs, io};
 // How much is read, and how much is written, at a time.
 const ROOM: usize = 65536;
 
-// Takes datagram after datagram, and writes the line of each. A proved loop has to end, and nothing
-// says that a file does: it ends at an index that no run reaches.
-fn inspect_all<R: BufRead + Drop>(feed: &mut Feed<R>, out: &mut impl Write) -> Result<()> {
+// Takes datagram after datagram, and writes the line of each. What is written at a time are whole
+// lines: where one more may not fit, those before it are written first. A proved loop has to end, and
+// nothing says that a file does: it ends at an index that no run reaches.
+fn inspect_all<R: BufRead + Drop, W: Write + Drop>(
+    feed: &mut Feed<R>,
+    out: &mut BufWriter<W>,
+) -> Result<()> {
     let mut room = [0; 65536];
     for index in 0..u64::MAX {
         if !feed.has_more() {
             break;
+        }
+        if out.capacity().saturating_sub(out.buffer().len()) < LONGEST {
+            out.flush()?;
         }
         let size = (feed.number(2) & 0xffff) as usize;
         feed.bytes(&mut room[..size]);

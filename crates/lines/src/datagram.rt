@@ -6,6 +6,10 @@ use packet::header::Header;
 use std::fmt;
 use std::fmt::{Display, Formatter};
 
+// No line is longer, with the line's end behind it: eleven numbers of at most 20 digits, 252 bytes
+// in hexadecimal, and spaces.
+pub const LONGEST: usize = 1024;
+
 // A datagram, and its index among those that are shown.
 #[derive(Clone, Copy)]
 pub struct Line<'a> {

@@ -1,3 +1,4 @@
 pub mod Numbers
 pub mod Promises
+pub mod Step
 pub mod Version

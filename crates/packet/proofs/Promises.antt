@@ -17,8 +17,12 @@ use Rattle.packet.proofs.extension.Part.bytes.Reads as bytes
 use Rattle.packet.proofs.extension.Cursor.step.Reads as step
 use Rattle.packet.proofs.header.HeaderReason.number.Reads as header-number
 use Rattle.packet.proofs.decode.Reason.number.Reads as reason-number
+use Rattle.packet.proofs.decode.ReasonFromHeaderReason.from.Reads as reason-from-header
+use Rattle.packet.proofs.decode.ReasonFromPastEnd.from.Reads as reason-from-past-end
+use Rattle.packet.proofs.decode.ReasonFromSackReason.from.Reads as reason-from-sack
 use Rattle.packet.proofs.decode.Packet.decode.Reads as decode
 use Rattle.packet.proofs.encode.Unwritten.number.Reads as unwritten-number
+use Rattle.packet.proofs.encode.UnwrittenFromSackReason.from.Reads as unwritten-from-sack
 use Rattle.packet.proofs.decode.Packet.encode.Reads as encode
 
 -- ---- kind
@@ -63,11 +67,23 @@ header_number_promise = by_value _ (λ κs a. tt) (λ κs a r s p. p)
 reason_number_promise : Promise reason-number.Pre reason-number.Post (λ κs r s. r)
 reason_number_promise = by_value _ (λ κs a. tt) (λ κs a r s p. p)
 
+reason_from_header_promise : Promise reason-from-header.Pre reason-from-header.Post (λ κs r s. r)
+reason_from_header_promise = by_value _ (λ κs a. tt) (λ κs a r s p. p)
+
+reason_from_past_end_promise : Promise reason-from-past-end.Pre reason-from-past-end.Post (λ κs r s. r)
+reason_from_past_end_promise = by_value _ (λ κs a. tt) (λ κs a r s p. p)
+
+reason_from_sack_promise : Promise reason-from-sack.Pre reason-from-sack.Post (λ κs r s. r)
+reason_from_sack_promise = by_value _ (λ κs a. tt) (λ κs a r s p. p)
+
 decode_promise : Promise decode.Pre decode.Post (λ κs r s. r)
 decode_promise = by_code decoded decoded_one_to_one _ (λ κs a. tt) (λ κs a r s p. p)
 
 unwritten_number_promise : Promise unwritten-number.Pre unwritten-number.Post (λ κs r s. r)
 unwritten_number_promise = by_value _ (λ κs a. tt) (λ κs a r s p. p)
+
+unwritten_from_sack_promise : Promise unwritten-from-sack.Pre unwritten-from-sack.Post (λ κs r s. r)
+unwritten_from_sack_promise = by_value _ (λ κs a. tt) (λ κs a r s p. p)
 
 -- The answer, and every byte of the lent room as the writer returns.
 encode_promise : Promise {W = Encoded × List ℕ} encode.Pre encode.Post (λ κs r s. (r, s.1.1.1.0.now))

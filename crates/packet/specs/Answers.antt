@@ -45,6 +45,10 @@ abbrev pub sacked : Option Part → Sacked
 sacked None = nowhere
 sacked (Some p) = inside p
 
+abbrev pub ended : Result ℕ PastEnd → Answer ℕ
+ended (Ok at) = done at
+ended (Err p) = refused 4
+
 abbrev pub chain_read : Result (Option Part × ℕ) PastEnd → Answer (Sacked × ℕ)
 chain_read (Ok (sack, at)) = done (sacked sack, at)
 chain_read (Err p) = refused 4

@@ -1,8 +1,9 @@
 // Writing a packet into room that the caller lends. Nothing is written on a refusal.
 ghost use Rattle.std.specs.Prelude.{◌+◌, ◌^◌, ◌≤◌, ◌≡◌, [], length};
-ghost use Rattle.common.specs.Answer.{answered};
+ghost use Rattle.common.specs.Answer.{answered, done, ◌then◌};
 ghost use Rattle.common.specs.Laws.Put.{put};
-ghost use Rattle.packet.specs.Encode.{encode_of, room_of, packet_bytes, size_of};
+ghost use Rattle.packet.specs.Encode.{encode_of, room_of, packet_bytes, size_of, data_answer};
+ghost use Rattle.packet.specs.Sack.{mask_answer};
 ghost use Rattle.packet.specs.Answers.{unwritten_number, encoded};
 ghost use Rattle.packet.specs.declared.encode.Unwritten.TheVariants.{BadSack};
 
@@ -73,10 +74,7 @@ fn write_packet(
         ≡ encode_of header sack.now payload.now (length room.old))
         × (room.new ≡ room_of header sack.now payload.now room.old) }
 {
-    check(sack.len())?;
-    if header.is_empty_data(payload.len()) {
-        return Err(Unwritten::EmptyData);
-    }
+    check_parts(header, sack.len(), payload.len())?;
     let size = size_of(sack.len(), payload.len());
     if room.len() < size {
         return Err(Unwritten::NoRoom);
@@ -87,6 +85,32 @@ fn write_packet(
         put_sacked(room, header, sack, payload);
     }
     Ok(size)
+}
+
+// The SACK, and behind it the payload: the first refusal counts.
+fn check_parts(header: Header, sack_len: usize, payload_len: usize) -> Result<(), Unwritten>
+    ensures { (answered unwritten_number result then done 0)
+        ≡ (mask_answer sack_len then data_answer header payload_len) }
+{
+    sack_part(sack_len).and(data_part(header, payload_len))
+}
+
+// The SACK's length, 5, 6, 8.
+fn sack_part(len: usize) -> Result<(), Unwritten>
+    ensures { (answered unwritten_number result then done len) ≡ mask_answer len }
+{
+    check(len)?;
+    Ok(())
+}
+
+// The payload, 7.
+fn data_part(header: Header, len: usize) -> Result<(), Unwritten>
+    ensures { (answered unwritten_number result then done 0) ≡ data_answer header len }
+{
+    if header.is_empty_data(len) {
+        return Err(Unwritten::EmptyData);
+    }
+    Ok(())
 }
 
 // The size of a packet with a SACK of so many bytes.

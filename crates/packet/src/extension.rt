@@ -1,8 +1,8 @@
 // The chain of extensions behind the header.
 ghost use Rattle.std.specs.Prelude.{◌≡◌};
-ghost use Rattle.packet.specs.Chain.{step_of, chain_from, read_of};
+ghost use Rattle.packet.specs.Chain.{step_of, chain_from, end_of, read_of};
 ghost use Rattle.packet.specs.Decode.{part_of};
-ghost use Rattle.packet.specs.Answers.{stepped, chain_read};
+ghost use Rattle.packet.specs.Answers.{stepped, ended, chain_read};
 
 // A part of a datagram, by its place and length.
 // (No slice: document 01 shows the payload "as its place and length in the datagram".)
@@ -72,18 +72,30 @@ impl Cursor {
     }
 }
 
-// Walks the whole chain: the body of its first SACK, and the place where the chain ends. The walk
-// goes by steps and not by an Iterator, since a `for` would not tell where it ended.
+// Walks the rest of a chain, to the place where it ends. Walks go by steps and not by an Iterator,
+// since a `for` would not tell where they ended.
+fn chain_end(datagram: &[u8], from: Cursor) -> Result<usize, PastEnd>
+    ensures { ended result ≡ end_of (chain_from datagram.now from) }
+{
+    let mut cursor = from;
+    while let Some((_, next)) = cursor.step(datagram)? {
+        cursor = next;
+    }
+    Ok(cursor.at)
+}
+
+// Walks the whole chain: the body of its first SACK, and the place where the chain ends. Behind the
+// first SACK nothing is kept, so that walk is the other, which is quicker.
 pub(crate) fn read_chain(datagram: &[u8], from: Cursor) -> Result<(Option<Part>, usize), PastEnd>
     ensures { chain_read result ≡ read_of (chain_from datagram.now from) }
 {
-    let mut sack = None;
     let mut cursor = from;
     while let Some((extension, next)) = cursor.step(datagram)? {
         if extension.number == 1 {
-            sack = sack.or(Some(extension.body));
+            let end = chain_end(datagram, next)?;
+            return Ok((Some(extension.body), end));
         }
         cursor = next;
     }
-    Ok((sack, cursor.at))
+    Ok((None, cursor.at))
 }

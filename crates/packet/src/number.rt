@@ -12,9 +12,12 @@ pub(crate) fn bytes_at<const N: usize>(s: &[u8], at: usize) -> [u8; N]
 }
 
 // Copies all of src into room from place `at` on.
+// (By index: std's `copy_from_slice` is a call of `memmove`, which a caller in C would have to bring.)
 pub(crate) fn put_all(room: &mut [u8], at: usize, src: &[u8])
     requires { at + length src.now ≤ length room.old }
     ensures { room.new ≡ put room.old at src.now }
 {
-    room[at..at + src.len()].copy_from_slice(src);
+    for i in 0..src.len() {
+        room[at + i] = src[i];
+    }
 }

@@ -244,7 +244,7 @@ impl Counts {
             return self;
         }
         let ready = self.ready - n as u32;
-        out[..n].copy_from_slice(&buf[..n]);
+        bytes::copy(&mut out[..n], &buf[..n]);
         buf.copy_within(n..n + ready as usize + held as usize, 0);
         Counts { ready, ..self }
     }
@@ -442,7 +442,7 @@ impl ReceiveBuffer {
         counts.is_sound(&self.waiting, held)
     }
 
-    // What is read of the state, where it is sound.
+    // What is read of the state, where it is sound. (What takes a walk is asked for behind the test.)
     fn told<T: Copy>(&self, value: T) -> Told<T>
         ensures { result ≡ told_of self.now value }
     {
@@ -502,15 +502,21 @@ impl ReceiveBuffer {
     pub fn available(self) -> Told<usize>
         ensures { result ≡ told_of self (free_of self.length self.ready (table_of self)) }
     {
+        if !self.is_sound() {
+            return Told::Refused(Refusal::NotSound);
+        }
         let free = self.length.saturating_sub(self.ready) as u64;
-        self.told(free.saturating_sub(waiting::bytes_in(self.table())) as usize)
+        Told::Is(free.saturating_sub(waiting::bytes_in(self.table())) as usize)
     }
 
     // Whether no byte is ready and nothing waits. Refusals: 19.
     pub fn is_empty(self) -> Told<bool>
         ensures { result ≡ told_of self (empty_of self) }
     {
-        self.told(self.ready == 0 && waiting::how_many(self.table()) == 0)
+        if !self.is_sound() {
+            return Told::Refused(Refusal::NotSound);
+        }
+        Told::Is(self.ready == 0 && waiting::how_many(self.table()) == 0)
     }
 
     // The number before the first payload's. Refusals: 19.
@@ -571,13 +577,19 @@ impl ReceiveBuffer {
     pub fn waiting(self) -> Told<usize>
         ensures { result ≡ told_of self (how_many (table_of self)) }
     {
-        self.told(waiting::how_many(self.table()))
+        if !self.is_sound() {
+            return Told::Refused(Refusal::NotSound);
+        }
+        Told::Is(waiting::how_many(self.table()))
     }
 
     // How many bytes wait. Refusals: 19.
     pub fn waiting_bytes(self) -> Told<usize>
         ensures { result ≡ told_of self (bytes_in (table_of self)) }
     {
-        self.told(waiting::bytes_in(self.table()) as usize)
+        if !self.is_sound() {
+            return Told::Refused(Refusal::NotSound);
+        }
+        Told::Is(waiting::bytes_in(self.table()) as usize)
     }
 }

@@ -4,6 +4,8 @@
 
 #![tactic(auto)]
 
+ghost use Rattle.std.specs.Prelude.{◌≤◌, IfOk, length};
+
 use report::failure::failed;
 use report::input::{LONGEST_PATH, path};
 use report::text::print;
@@ -11,7 +13,7 @@ use session::line::Bad;
 use session::replay::Replay;
 use std::alloc::Global;
 use std::fs;
-use std::io::{Read, Result};
+use std::io::{ErrorKind, Read, Result};
 use std::process::ExitCode;
 
 // ---- reading
@@ -25,13 +27,47 @@ fn has_more(source: &mut impl Read) -> bool {
     matches!(source.read(&mut one), Ok(count) if count > 0)
 }
 
-// Reads until the input ends. `None` for an input that is longer than the longest session.
-fn read_all(alloc: Global, source: &mut impl Read) -> Result<Option<Vec<u8>>> {
-    let mut file = Vec::new(alloc);
-    source.by_ref().take(MOST as u64).read_to_end(&mut file)?;
-    if file.len() == MOST && has_more(source) {
+// One read. A read that a signal interrupts is tried again.
+fn read_on(source: &mut impl Read, room: &mut [u8]) -> Result<usize>
+    ensures { IfOk result (λ count. count ≤ length room.old) }
+{
+    for _ in 0..u64::MAX {
+        match source.read(room) {
+            Ok(count) => return Ok(count),
+            Err(error) => {
+                if error.kind() != ErrorKind::Interrupted {
+                    return Err(error);
+                }
+            }
+        }
+    }
+    Ok(0)
+}
+
+// Reads until the input ends or the room is full, and answers how many bytes there are. Each read is
+// offered all the room that is left, so that of a source which hands out packets no byte is lost.
+fn read_all(source: &mut impl Read, file: &mut [u8]) -> Result<usize>
+    ensures { IfOk result (λ count. count ≤ length file.old) }
+{
+    let mut count = 0;
+    while count < file.len() {
+        let more = read_on(source, &mut file[count..])?;
+        if more == 0 {
+            break;
+        }
+        count += more;
+    }
+    Ok(count)
+}
+
+// Reads a session, into room for the longest. `None` for an input that is longer.
+fn read_session(alloc: Global, source: &mut impl Read) -> Result<Option<Vec<u8>>> {
+    let mut file = vec![in alloc; 0; MOST]?;
+    let length = read_all(source, &mut file)?;
+    if length == MOST && has_more(source) {
         return Ok(None);
     }
+    file.truncate(length);
     Ok(Some(file))
 }
 
@@ -84,7 +120,7 @@ fn replay_from(
     source: Result<impl Read + Drop>,
     name: &str,
 ) -> ExitCode {
-    match source.and_then(|mut source| read_all(rt.alloc(), &mut source)) {
+    match source.and_then(|mut source| read_session(rt.alloc(), &mut source)) {
         Ok(Some(file)) => match replay(rt, &file) {
             Ok(()) => ExitCode::SUCCESS,
             Err(error) => failed(rt, "write", &error),

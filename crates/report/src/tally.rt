@@ -2,6 +2,7 @@
 use std::fmt;
 use std::fmt::{Display, Formatter};
 use std::io::Result;
+use std::str::from_utf8;
 
 // How many cases were compared, how many differ, how many have each answer number, and the indices
 // of the first that differ: of the eight as many as differ. No Vec, so that a tally is copied and
@@ -43,11 +44,14 @@ impl Tally {
         self
     }
 
-    // Prints the name, and behind a colon what is said of the tally. Fails where the line was not
-    // all written.
+    // Prints the name, and behind a colon what is said of the tally, in one write where the name is
+    // text. Fails where the line was not all written.
     pub fn print(&self, rt: &impl Print, name: &[u8]) -> Result<()> {
-        rt.write_all(name)?;
         let counts = Counts(self);
+        if let Ok(text) = from_utf8(name) {
+            return println!(rt; "{text}: {counts}");
+        }
+        rt.write_all(name)?;
         println!(rt; ": {counts}")
     }
 }

@@ -15,7 +15,7 @@ use Rattle.ribsaddle.specs.declared.receiver.Receiver.{Receiver}
 use Rattle.ribsaddle.specs.declared.tracker.Tracker.{Tracker}
 use Rattle.sent.specs.State.{read_of as tracker_read_of}
 use Rattle.std.specs.Prelude.{List, refl, ℕ, ◌≡◌}
-use Rattle.common.specs.Promise.{by_value}
+use Rattle.common.specs.Promise.{Promise, by_value}
 use Rattle.ribsaddle.proofs.Exported.{Exported}
 use Rattle.ribsaddle.specs.contracts.codec.ribsaddle_decode as decode
 use Rattle.ribsaddle.specs.contracts.codec.ribsaddle_encode as encode
@@ -48,6 +48,8 @@ use Rattle.ribsaddle.specs.contracts.receiver.ribsaddle_recv_ready as recv_ready
 use Rattle.ribsaddle.specs.contracts.receiver.ribsaddle_recv_waiting as recv_waiting
 use Rattle.ribsaddle.specs.contracts.receiver.ribsaddle_recv_waiting_bytes as recv_waiting_bytes
 use Rattle.ribsaddle.specs.contracts.receiver.ribsaddle_recv_was_written as recv_was_written
+use Rattle.ribsaddle.proofs.codec.HeaderFieldsFromHeader.from.Reads as HeaderFieldsFromHeader
+use Rattle.ribsaddle.proofs.codec.PacketFieldsFromPacket.from.Reads as PacketFieldsFromPacket
 
 decode_promise : Exported decode.ended (λ M 𝓤 𝓛. decode.clauses 𝓛) {W = ℕ × PacketFields} (λ κs r e. (r, e.0.now))
 decode_promise =
@@ -327,3 +329,11 @@ recv_was_written_promise =
       says = λ M 𝓤 𝓛 mem run κs a g r e. refl;
       promise = by_value _ (λ κs a. tt) (λ κs a r e p. λ i. (p.0 i, p.1 i));
     }
+
+-- ---- conversions
+
+header_fields_from_header_promise : Promise HeaderFieldsFromHeader.Pre HeaderFieldsFromHeader.Post (λ κs r s. r)
+header_fields_from_header_promise = by_value _ (λ κs a. tt) (λ κs a r s p. p)
+
+packet_fields_from_packet_promise : Promise PacketFieldsFromPacket.Pre PacketFieldsFromPacket.Post (λ κs r s. r)
+packet_fields_from_packet_promise = by_value _ (λ κs a. tt) (λ κs a r s p. p)

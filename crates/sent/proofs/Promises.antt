@@ -1,5 +1,5 @@
 -- Every public function of the crate: nothing is asked of its caller, and no two different outcomes satisfy its promise.
-use mathlib.Core.List.{Mem}
+use mathlib.Core.List.{List, Mem}
 use mathlib.Core.Path.{◌≡◌}
 use Prim.Native.Nat.{ℕ}
 use denote.RattleType.{RattleType}
@@ -10,6 +10,9 @@ use Rattle.common.specs.Promise.{Promise, by_value, by_code}
 use Rattle.controller.specs.declared.samples.Samples.{Ghosts as SamplesGhosts}
 use Rattle.outgoing.specs.Answers.{answer_told}
 use Rattle.outgoing.specs.Laws.OneToOne.{answer_told_one}
+use Rattle.std.specs.Prelude.{get_or, set}
+use Rattle.outgoing.specs.declared.kept.Packet.{Packet}
+use Rattle.outgoing.specs.Tracker.{no_packet}
 use Rattle.sent.specs.declared.head.Head.{Head}
 use Rattle.sent.specs.declared.head.Stepped.{Stepped}
 use Rattle.sent.specs.declared.packets.Packets.{Ghosts as PacketsGhosts}
@@ -35,6 +38,8 @@ use Rattle.sent.proofs.head.Head.has_unacked_packets.Reads as head-has-unacked-p
 use Rattle.sent.proofs.head.Head.lost_count.Reads as head-lost-count
 use Rattle.sent.proofs.head.Head.has_lost_packets.Reads as head-has-lost-packets
 use Rattle.sent.proofs.head.Head.lost_at.Reads as head-lost-at
+use Rattle.sent.proofs.packets.ArrayPacket512Packets.packet_at.Reads as array-packet-at
+use Rattle.sent.proofs.packets.ArrayPacket512Packets.put_packet.Reads as array-put-packet
 use Rattle.sent.proofs.state.SentPackets.new.Reads as new
 use Rattle.sent.proofs.state.SentPackets.sound.Reads as sound
 use Rattle.sent.proofs.state.SentPackets.on_transmit.Reads as on-transmit
@@ -63,6 +68,13 @@ beside_one x y e = let a = stepped_one x.0 y.0 (λ i. (e i).0) in λ i. (a i, (e
 
 pub head_new_promise : Promise head-new.Pre head-new.Post (λ κs r s. r)
 head_new_promise = by_code stepped stepped_one _ (λ κs a. tt) (λ κs a r s p. p)
+
+-- `[Packet; 512]` as an instance of `Packets`: its packets are what lies in it.
+array_packet_at_promise : Promise array-packet-at.Pre array-packet-at.Post (λ κs r s. r)
+array_packet_at_promise = by_value (λ κs a. get_or a.0.now a.1.0.at no_packet) (λ κs a. tt) (λ κs a r s p. p.0)
+
+array_put_packet_promise : Promise {W = List Packet} array-put-packet.Pre array-put-packet.Post (λ κs r s. s.0.now)
+array_put_packet_promise = by_value (λ κs a. set a.0.now a.1.0.at a.1.1.0) (λ κs a. tt) (λ κs a r s p. p.0)
 
 -- At each two types of places that hold no reference. What is seen of a place that is lent to be written is all of it.
 module _ (A B : RattleType) (K : Laws A) (L : Laws B) (S : SamplesGhosts A.Denot) (d : Dict) (P : PacketsGhosts B.Denot) (e : Dict)

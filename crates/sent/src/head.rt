@@ -95,18 +95,21 @@ impl Head {
         }
     }
 
-    // Does it pass the soundness test, with the samples and the packets that lie there?
+    // Does it pass the soundness test, with the samples and the packets that lie there? More than 512
+    // kept are refused before any walk. (`len` and the first packet tell what the last two clauses
+    // say, by the traits' clauses.)
     pub fn sound<S: Samples, P: Packets>(self, samples: &S, packets: &P) -> bool
         ensures sound { result ≡ state_sound_of (whole_of self (S.samples samples.now) (P.packets packets.now)) }
         ensures alone { S.of_samples (S.samples samples.now) ≡ samples.now }
         ensures full { Full P.packets P.of_packets packets.now }
     {
         let numbers = self.numbers;
-        let delays_sound = samples::sound(samples, self.kept, numbers.last);
+        let _most = samples.len();
         let first = packets.packet_at(Place { at: 0 });
         if Packet::PLACES < self.live {
             return false;
         }
+        let delays_sound = samples::sound(samples, self.kept, numbers.last);
         let in_flight = walked(packets, self.live, numbers.last);
         (self.live <= self.count)
             & (self.count <= Packet::MOST_SENT)

@@ -3,11 +3,17 @@
 -- Of a function that is lent memory to write, an outcome is its result together with all that stands in that memory on return.
 use mathlib.Core.List.{List, Mem, not-mem-nil}
 use Prim.Native.Nat.{ℕ}
+use Rattle.std.specs.Prelude.{get_or, set}
+use Rattle.std.proofs.Common.{sym, ap, ◌∙◌}
 use mir.Syntax.{Dict}
 use denote.Param.Laws.{Laws, struct_laws}
 use denote.Param.Shared.{copy_shared}
 use denote.Struct.Loose.{loosens}
-use Rattle.common.specs.Promise.{Promise}
+use Rattle.common.specs.Promise.{Promise, by_value}
+use Rattle.controller.specs.declared.delays.Sample.{Sample}
+use Rattle.controller.specs.Delays.{most, no_sample}
+use Rattle.outgoing.specs.declared.kept.Packet.{Packet}
+use Rattle.outgoing.specs.Tracker.{no_packet}
 use Rattle.controller.specs.declared.samples.Samples.{Ghosts as SamplesGhosts}
 use Rattle.sent.specs.declared.head.Stepped.{Stepped}
 use Rattle.sent.specs.declared.packets.Packets.{Ghosts as PacketsGhosts}
@@ -28,6 +34,11 @@ use Rattle.sent.proofs.head.Head.has_unacked_packets.Reads as has-unacked-packet
 use Rattle.sent.proofs.head.Head.lost_count.Reads as lost-count
 use Rattle.sent.proofs.head.Head.has_lost_packets.Reads as has-lost-packets
 use Rattle.sent.proofs.head.Head.lost_at.Reads as lost-at
+use Rattle.sent_lent.proofs.columns.ColumnsPackets.packet_at.Reads as columns-packet-at
+use Rattle.sent_lent.proofs.columns.ColumnsPackets.put_packet.Reads as columns-put-packet
+use Rattle.sent_lent.proofs.pairs.PairsSamples.len.Reads as pairs-len
+use Rattle.sent_lent.proofs.pairs.PairsSamples.sample.Reads as pairs-sample
+use Rattle.sent_lent.proofs.pairs.PairsSamples.put.Reads as pairs-put
 use Rattle.sent_lent.specs.declared.columns.Columns.{Columns}
 use Rattle.sent_lent.specs.declared.pairs.Pairs.{Pairs}
 use Rattle.sent_lent.specs.contracts.columns.Columns.{the_type as columns_type, the_row as columns_row}
@@ -57,6 +68,31 @@ samples_of = record { samples = λ s. samples_in s.pairs; of_samples = pairs_as 
 
 abbrev packets_of : PacketsGhosts Columns
 packets_of = record { packets = λ c. packets_in c.times c.sizes c.marks; of_packets = columns_of }
+
+-- What the methods of these very instances answer and leave is said by `samples_of` and `packets_of`: so a record below, which is at these two, is one of the calls as
+-- they run over `Pairs` and `Columns`.
+columns_packet_at_promise : Promise columns-packet-at.Pre columns-packet-at.Post (λ κs r s. r)
+columns_packet_at_promise = by_value (λ κs a. get_or (packets_of.packets a.0.now) a.1.0.at no_packet) (λ κs a. tt) (λ κs a r s p. p.0)
+
+columns_put_packet_promise : Promise {W = Columns} columns-put-packet.Pre columns-put-packet.Post (λ κs r s. s.0.now)
+columns_put_packet_promise =
+    by_value
+    (λ κs a. packets_of.of_packets (set (packets_of.packets a.0.now) a.1.0.at a.1.1.0))
+    (λ κs a. tt)
+    (λ κs a r s p. sym p.1.alone ∙ ap (λ (l : List Packet). packets_of.of_packets l) p.0)
+
+pairs_len_promise : Promise pairs-len.Pre pairs-len.Post (λ κs r s. r)
+pairs_len_promise = by_value (λ κs a. most) (λ κs a. tt) (λ κs a r s p. p.0)
+
+pairs_sample_promise : Promise pairs-sample.Pre pairs-sample.Post (λ κs r s. r)
+pairs_sample_promise = by_value (λ κs a. get_or (samples_of.samples a.0.now) a.1.0 no_sample) (λ κs a. tt) (λ κs a r s p. p.0)
+
+pairs_put_promise : Promise {W = Pairs} pairs-put.Pre pairs-put.Post (λ κs r s. s.0.now)
+pairs_put_promise =
+    by_value
+    (λ κs a. samples_of.of_samples (set (samples_of.samples a.0.now) a.1.0 a.1.1.0))
+    (λ κs a. tt)
+    (λ κs a r s p. sym p.1.1 ∙ ap (λ (l : List Sample). samples_of.of_samples l) p.0)
 
 -- Where there is one outcome, there is one of what is seen in it.
 seen_in :

@@ -1,6 +1,6 @@
 // The start of a replay: the file is checked once.
 ghost use Rattle.std.specs.Prelude.{◌≡◌};
-ghost use Rattle.session.specs.Replay.{started, start_answer, no_replay};
+ghost use Rattle.session.specs.Replay.{verdict_of, start_told, started, start_answer, no_replay};
 
 use crate::check::check;
 use crate::line::Bad;
@@ -9,6 +9,19 @@ use crate::settings::{read_settings, setting};
 use congestion::settings::Settings;
 use sent::state::SentPackets;
 use seq::SeqNum;
+
+// What is answered: 20 where the file is no session, then 10 where a setting is out of range.
+fn verdict(is_session: bool, in_range: bool) -> Result<(), Bad>
+    ensures { start_told result ≡ verdict_of is_session in_range }
+{
+    if is_session & !in_range {
+        return Err(Bad::BadSetting);
+    }
+    if !is_session {
+        return Err(Bad::BadSession);
+    }
+    Ok(())
+}
 
 // No event, and a tracker that is not sound.
 // (No Option: `start_answer` says what a refused start hands back.)
@@ -39,8 +52,10 @@ impl Replay {
         ensures { started result ≡ start_answer file.now }
     {
         let Some(layout) = check(file) else {
+            // Asked of any file: `verdict` alone says which of the two comes first.
+            let in_range = 68 <= file.len() && read_settings(file).in_range();
             return Started {
-                answer: Err(Bad::BadSession),
+                answer: verdict(false, in_range),
                 replay: none(),
             };
         };
@@ -52,14 +67,8 @@ impl Replay {
             sack_at: layout.sack_at,
             state: SentPackets::new(initial, settings).state,
         };
-        if !settings.in_range() {
-            return Started {
-                answer: Err(Bad::BadSetting),
-                replay,
-            };
-        }
         Started {
-            answer: Ok(()),
+            answer: verdict(true, settings.in_range()),
             replay,
         }
     }

@@ -15,6 +15,9 @@ bytes_in_sum = is_sum_by bytes_in (λ x. x - 1) refl (λ x xs. refl)
 pub how_many_count : (l : List ℕ) → how_many l ≡ count_by waits l
 how_many_count = is_sum_by how_many (λ x. cond (waits x) 1 0) refl (λ x xs. refl)
 
+pub how_many_sum : (l : List ℕ) → how_many l ≡ sum_by (λ x. cond (waits x) 1 0) l
+how_many_sum = is_sum_by how_many (λ x. cond (waits x) 1 0) refl (λ x xs. refl)
+
 pub bytes_in_take_suc : (l : List ℕ) (i : ℕ) → bytes_in (take (suc i) l) ≡ bytes_in (take i l) + (get_or l i 0 - 1)
 bytes_in_take_suc [] zero = refl
 bytes_in_take_suc [] (suc i) = refl

@@ -25,7 +25,7 @@ returns c =
     let left : a.n + (s.ready - a.n) + a.held - a.n ≡ s.ready - a.n + bytes_in (table_of s) = omega (arith, c.requires.1.is) in (
       sym (taken_state s a.buf.now a.out.now a.n known),
       c.copy_within.ensures.after ∙ ap (λ (m : ℕ). paste a.buf.now 0 (drop a.n a.buf.now) m) left ∙ sym (taken_room s a.buf.now a.out.now a.n known),
-      ap (λ (l : List ℕ). l ++ drop a.n a.out.now) c.copy_from_slice.ensures.after
+      ap (λ (l : List ℕ). l ++ drop a.n a.out.now) c.copy.ensures
           ∙ ap (λ (m : ℕ). take a.n a.buf.now ++ drop m a.out.now) (sym (zero-add a.n))
           ∙ sym (taken_out s a.buf.now a.out.now a.n known),
     )
