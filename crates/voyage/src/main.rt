@@ -20,32 +20,34 @@ mod told;
 mod totals;
 mod tracker;
 
+use book::Book;
 use plan::Plan;
 use report::text::front;
 use run::Ended;
 use std::env::{Env, FillError};
 use std::io::Result;
-use step::drawn_step;
+use step::{Step, drawn_step};
 use totals::Totals;
 
 // The seeded runs.
 const LAST_SEED: u64 = 240;
 
+// Where a run's steps come from. (By one type for both, so that there is one `run`, with one frame:
+// with a closure's own type each it was laid into its callers, and took twice the stack.)
+type Steps = fn(&Book, usize) -> Step;
+
 // The run of a seed, and its line.
 fn seeded(rt: &impl Print, seed: u64, is_shown: bool) -> Result<Ended> {
-    let run = run::run(
-        rt,
-        Plan::of_seed(seed),
-        |book, _| drawn_step(book),
-        is_shown,
-    )?;
+    let steps: Steps = |book, _| drawn_step(book);
+    let run = run::run(rt, Plan::of_seed(seed), steps, is_shown)?;
     println!(rt; "{run}")?;
     Ok(run)
 }
 
 // The run of fixed steps, step by step, and its line.
 fn fixed(rt: &impl Print) -> Result<Ended> {
-    let run = run::run(rt, script::plan(), |_, index| script::step_at(index), true)?;
+    let steps: Steps = |_, index| script::step_at(index);
+    let run = run::run(rt, script::plan(), steps, true)?;
     println!(rt; "fixed steps, {run}")?;
     Ok(run)
 }
